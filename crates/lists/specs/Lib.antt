@@ -1,0 +1,5 @@
+pub mod Holds
+pub mod Filters
+pub mod Members
+pub mod Tabs
+pub mod Tests

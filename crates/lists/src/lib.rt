@@ -1,0 +1,1 @@
+// Lists and tests: the definitions and the laws that several crates cite. It has no code.

@@ -1,0 +1,90 @@
+-- Laws of ranks and buckets.
+-- Assumes nothing.
+use Prim.Native.Nat.{ℕ, suc, _+_, _-_, _^_, _%_, _≤_, _<_}
+use mathlib.Core.Path.{_≡_, refl, sym, ap, _∙_}
+use mathlib.Core.Bool.{Bool, true, false, true≢false}
+use native.Mathlib.Omega.{arith}
+use native.Mathlib.Nat.{mod-lt}
+use lib.Dec.{T, ltb, leb, leb→le, ltb→lt}
+use lib.IntN.{ℤ, pos, negsuc}
+use lib.Signed.{ltZ, leZ}
+use mir.Syntax.{w64}
+use mir.Val.{SFits, toZ, ofZ}
+use mir.ValLaws.{toZ-ofZ, toZ-pos, toZ-neg}
+use borrow.Author.Tests.{ltb-true, lt-ltb, le-ltb}
+use Rattle.sizes.specs.Rank.{rankOf, keyOf, patternOf, bucketOf}
+
+-- what the code's test on the sign tells
+pub record Neg (z : ℤ) : Type 0 where
+  pub n : ℕ
+  pub is : z ≡ negsuc n
+  pub small : n < 2 ^ 63
+  pub flip : toZ w64 (18446744073709551615 - ofZ w64 z) ≡ pos n
+
+pub neg : (z : ℤ) → SFits w64 z → ltZ (toZ w64 (ofZ w64 z)) (pos 0) ≡ true → Neg z
+neg (pos n) f e =
+    let t : ltb n 0 ≡ true = ap (λ x. ltZ x (pos 0)) (sym (toZ-ofZ w64 (pos n) f)) ∙ e in
+    absurd (omega (arith, ltb-true n 0 t))
+neg (negsuc n) f e =
+    let q : 18446744073709551615 - (18446744073709551616 - suc n) ≡ n = omega (arith, f .sfits) in
+    record { n = n; is = refl; small = f .sfits; flip = rw q (toZ-pos w64 n (f .sfits)) }
+
+pub record NonNeg (z : ℤ) : Type 0 where
+  pub n : ℕ
+  pub is : z ≡ pos n
+  pub small : n < 2 ^ 63
+  pub same : toZ w64 (ofZ w64 z) ≡ pos n
+
+pub nonneg : (z : ℤ) → SFits w64 z → ltZ (toZ w64 (ofZ w64 z)) (pos 0) ≡ false → NonNeg z
+nonneg (pos n) f e = record { n = n; is = refl; small = f .sfits; same = toZ-ofZ w64 (pos n) f }
+nonneg (negsuc n) f e =
+    let t : true ≡ false = ap (λ x. ltZ x (pos 0)) (sym (toZ-ofZ w64 (negsuc n) f)) ∙ e in
+    absurd (true≢false t)
+
+-- LAW: ranks stand in the order of the keys
+pub rank-le : (a b : ℤ) → SFits w64 a → SFits w64 b → T (leZ a b) → rankOf a ≤ rankOf b
+rank-le (pos a) (pos b) f g h = omega (arith, leb→le a b h)
+rank-le (pos a) (negsuc b) f g h = absurd h
+rank-le (negsuc a) (pos b) f g h = omega arith
+rank-le (negsuc a) (negsuc b) f g h = omega (arith, leb→le b a h)
+
+pub rank-lt : (a b : ℤ) → SFits w64 a → SFits w64 b → T (ltZ a b) → rankOf a < rankOf b
+rank-lt (pos a) (pos b) f g h = omega (arith, ltb→lt a b h)
+rank-lt (pos a) (negsuc b) f g h = absurd h
+rank-lt (negsuc a) (pos b) f g h = omega (arith, f .sfits)
+rank-lt (negsuc a) (negsuc b) f g h = omega (arith, ltb→lt b a h, f .sfits, g .sfits)
+
+-- LAW: the key of a rank, and the rank of a key
+pub key-rank : (z : ℤ) → SFits w64 z → keyOf (rankOf z) ≡ z
+key-rank (pos n) f = rw (le-ltb (n + 9223372036854775808) 9223372036854775808 (omega arith)) (ap pos (omega arith))
+key-rank (negsuc n) f = rw (lt-ltb (9223372036854775807 - n) 9223372036854775808 (omega arith)) (ap negsuc (omega (arith, f .sfits)))
+
+pub key-low : (r : ℕ) → r < 9223372036854775808 → toZ w64 (18446744073709551615 - (9223372036854775807 - r)) ≡ keyOf r
+key-low r h =
+    let k = 9223372036854775807 - r in
+    let q : 18446744073709551615 - (9223372036854775807 - r) ≡ 18446744073709551616 - suc (9223372036854775807 - r) = omega arith in
+    rw (q, lt-ltb r 9223372036854775808 h) (toZ-neg w64 (9223372036854775807 - r) (omega arith))
+
+pub key-high : (r : ℕ) → r < 2 ^ 64 → 9223372036854775808 ≤ r → toZ w64 (r - 9223372036854775808) ≡ keyOf r
+key-high r f h = rw (le-ltb r 9223372036854775808 h) (toZ-pos w64 (r - 9223372036854775808) (omega arith))
+
+-- LAW: over the signed key
+pub bucket-key : (z : ℤ) (n : ℕ) → SFits w64 z → bucketOf (rankOf z) n ≡ patternOf z % n
+unfolding bucketOf
+bucket-key z n f = ap (λ (k : ℤ). patternOf k % n) (key-rank z f)
+
+-- the rank's top bit is turned
+pub bucket-low : (r n : ℕ) → r < 9223372036854775808 → (r + 9223372036854775808) % n ≡ bucketOf r n
+unfolding bucketOf
+bucket-low r n h =
+    let e : r + 9223372036854775808 ≡ 18446744073709551616 - suc (9223372036854775807 - r) = omega arith in
+    rw (lt-ltb r 9223372036854775808 h, e)
+
+pub bucket-high : (r n : ℕ) → 9223372036854775808 ≤ r → (r - 9223372036854775808) % n ≡ bucketOf r n
+unfolding bucketOf
+bucket-high r n h = rw (le-ltb r 9223372036854775808 h)
+
+-- LAW: it is one of the buckets
+pub bucket-lt : (r n : ℕ) → 0 < n → bucketOf r n < n
+unfolding bucketOf
+bucket-lt r n h = mod-lt (patternOf (keyOf r)) h

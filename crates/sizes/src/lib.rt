@@ -1,0 +1,112 @@
+// The capacities that a map may have, versions and node numbers, and a signed key as a rank with its bucket.
+ghost use mathlib.Core.Path.{_≡_};
+ghost use Prim.Native.Nat.{_<_};
+ghost use Rattle.sizes.specs.Sizes.{sizeOf};
+ghost use Rattle.sizes.specs.Rank.{rankOf, keyOf, bucketOf};
+
+// A version, which is only ever compared with a version.
+pub struct Version(pub u32);
+
+// The number of a node.
+pub struct Node(pub u32);
+
+pub struct Size {
+    pub capacity: u32,
+    pub levels: u32,
+    pub buckets: u32,
+}
+
+pub enum Sized {
+    Of(Size),
+    Nothing,
+}
+
+const SIZES: [Size; 7] = [
+    Size {
+        capacity: 64,
+        levels: 6,
+        buckets: 97,
+    },
+    Size {
+        capacity: 128,
+        levels: 7,
+        buckets: 191,
+    },
+    Size {
+        capacity: 256,
+        levels: 8,
+        buckets: 367,
+    },
+    Size {
+        capacity: 512,
+        levels: 9,
+        buckets: 733,
+    },
+    Size {
+        capacity: 1024,
+        levels: 10,
+        buckets: 1471,
+    },
+    Size {
+        capacity: 2048,
+        levels: 11,
+        buckets: 2927,
+    },
+    Size {
+        capacity: 4096,
+        levels: 12,
+        buckets: 5857,
+    },
+];
+
+// The size of this capacity, if the table has it.
+pub fn size_of(capacity: u32) -> Sized
+    ensures { λ r. ⌜ r ≡ sizeOf capacity ⌝ }
+{
+    let mut i = 0;
+    while i < 7 {
+        let s = SIZES[i];
+        if s.capacity == capacity {
+            return Sized::Of(s);
+        }
+        i += 1;
+    }
+    Sized::Nothing
+}
+
+// The rank of a signed key: unsigned, in the same order.
+pub fn rank(k: i64) -> u64
+    ensures { λ r. ⌜ r ≡ rankOf k ⌝ }
+{
+    if k < 0 {
+        let m = !k;
+        9223372036854775807 - (m as u64)
+    } else {
+        (k as u64) + 9223372036854775808
+    }
+}
+
+// The key of a rank.
+pub fn unrank(r: u64) -> i64
+    ensures { λ k. ⌜ k ≡ keyOf r ⌝ }
+{
+    if r < 9223372036854775808 {
+        let m = (9223372036854775807 - r) as i64;
+        !m
+    } else {
+        (r - 9223372036854775808) as i64
+    }
+}
+
+// The bucket, of n buckets, of the key with this rank: its 64-bit pattern modulo n. The pattern is the rank with its top bit turned.
+pub fn bucket_of(rank: u64, n: usize) -> usize
+    requires { ⌜ 0 < n ⌝ }
+    ensures { λ r. ⌜ (r ≡ bucketOf rank n) × (r < n) ⌝ }
+{
+    let m = n as u64;
+    if rank < 9223372036854775808 {
+        ((rank + 9223372036854775808) % m) as usize
+    } else {
+        ((rank - 9223372036854775808) % m) as usize
+    }
+}
