@@ -5,3 +5,4 @@ pub mod Splits
 pub mod Tabbing
 pub mod Answers
 pub mod Casts
+pub mod Tallies

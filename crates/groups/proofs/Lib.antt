@@ -1,0 +1,5 @@
+pub mod Standing
+pub mod Scanning
+pub mod Grouping
+pub mod Signing
+pub mod Writing

@@ -1,0 +1,119 @@
+// Numbers of the schedule file: groups of seven bits, lowest group first, and signed numbers as unsigned ones.
+ghost use mathlib.Core.Path.{_≡_};
+ghost use Prim.Native.Nat.{_+_, _≤_};
+ghost use lib.ListN.{length, drop};
+ghost use lib.Seq.{sets};
+ghost use Rattle.groups.specs.Groups.{Reads, groupsOf};
+ghost use Rattle.groups.specs.Buffers.{Writes};
+ghost use Rattle.groups.specs.Signs.{turned, unturned};
+
+// What is written at a place: a number and its length in bytes, only the beginning of a number where the bytes end, or neither.
+pub enum Number {
+    Of(u64, usize),
+    CutOff,
+    Malformed,
+}
+
+// What a writer answers: the length of what it wrote, or 1 where the lent buffer is too short.
+pub enum Wrote {
+    Length(usize),
+    Refused(u32),
+}
+
+fn wide(byte: u8) -> u64
+    ensures { λ r. ⌜ r ≡ byte ⌝ }
+{
+    byte as u64
+}
+
+// Reads the number that begins at this place.
+pub fn read(bytes: &[u8], at: usize) -> Number
+    ensures { λ r. ⌜ Reads (drop at (now (bytes .entry))) r ⌝ }
+{
+    let mut sum: u64 = 0;
+    let mut power: u64 = 1;
+    let mut count: usize = 0;
+    let mut place = at;
+    while place < bytes.len() {
+        let byte = wide(bytes[place]);
+        if byte < 128 {
+            if count == 0 {
+                return Number::Of(byte, 1);
+            }
+            if byte == 0 {
+                return Number::Malformed;
+            }
+            if (18446744073709551615 - sum) / power < byte {
+                return Number::Malformed;
+            }
+            return Number::Of(sum + byte * power, count + 1);
+        }
+        if count == 9 {
+            return Number::Malformed;
+        }
+        sum += (byte - 128) * power;
+        power *= 128;
+        count += 1;
+        place += 1;
+    }
+    Number::CutOff
+}
+
+// How many bytes a number takes.
+pub fn length_of(n: u64) -> usize
+    ensures { λ r. ⌜ r ≡ length (groupsOf n) ⌝ }
+{
+    let mut rest = n;
+    let mut count = 1;
+    while 128 <= rest {
+        rest = rest / 128;
+        count += 1;
+    }
+    count
+}
+
+// Puts a number's bytes at a place of the buffer, and answers the place behind them.
+pub fn put(buffer: &mut [u8], at: usize, n: u64) -> usize
+    requires { ⌜ at + length (groupsOf n) ≤ length (now buffer) ⌝ }
+    ensures { λ r. ⌜ (r ≡ at + length (groupsOf n)) × (now (buffer .exit) ≡ sets (now (buffer .entry)) at (groupsOf n)) ⌝ }
+{
+    let mut left = n;
+    let mut place = at;
+    while 128 <= left {
+        buffer[place] = (left % 128 + 128) as u8;
+        left = left / 128;
+        place += 1;
+    }
+    buffer[place] = left as u8;
+    place + 1
+}
+
+// Writes a number at the front of a lent buffer.
+pub fn write(buffer: &mut [u8], n: u64) -> Wrote
+    ensures { λ r. ⌜ Writes (groupsOf n) (now (buffer .entry)) (now (buffer .exit)) r ⌝ }
+{
+    if buffer.len() < length_of(n) {
+        return Wrote::Refused(1);
+    }
+    Wrote::Length(put(buffer, 0, n))
+}
+
+// A signed number as an unsigned one: 2 * k, or -2 * k - 1 where k is negative, which is 2 * !k + 1.
+pub fn turn(k: i64) -> u64
+    ensures { λ r. ⌜ r ≡ turned k ⌝ }
+{
+    if k < 0 {
+        let m = !k;
+        (m as u64) * 2 + 1
+    } else {
+        (k as u64) * 2
+    }
+}
+
+// The signed number that is written as n.
+pub fn unturn(n: u64) -> i64
+    ensures { λ k. ⌜ k ≡ unturned n ⌝ }
+{
+    let half = (n / 2) as i64;
+    if n % 2 == 0 { half } else { !half }
+}

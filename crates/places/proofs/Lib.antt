@@ -1,0 +1,11 @@
+pub mod Wraps
+pub mod Lists
+pub mod Stores
+pub mod Seats
+pub mod Members
+pub mod Freeing
+pub mod Retiring
+pub mod Marking
+pub mod Clearing
+pub mod Counting
+pub mod Covering

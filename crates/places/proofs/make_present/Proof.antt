@@ -1,0 +1,45 @@
+-- `places::make_present` meets its contract.
+-- Assumes nothing.
+use Rattle.places.specs.Stores.{stored}
+use Rattle.places.specs.Changes.{marked}
+use borrow.Author.Needs.{needs}
+use Rattle.places.proofs.make_present.Statement.{statement}
+use Rattle.places.proofs.make_present.Tie as tie
+
+add-cell : tie.Need-add-cell
+add-cell c = search needs
+
+cell-requires : tie.Need-cell-requires
+cell-requires c κs = search needs
+
+put-requires : tie.Need-put-requires
+put-requires c κs = search needs
+
+add-put : tie.Need-add-put
+add-put c = search needs
+
+add-put-2 : tie.Need-add-put-2
+add-put-2 c = search needs
+
+put-requires-2 : tie.Need-put-requires-2
+put-requires-2 c κs = search needs
+
+same-length : tie.Need-same-length
+same-length c = search needs
+
+returns : tie.Need-returns
+unfolding marked stored
+returns c = rw (c .before .before .put2 .ensures, c .before .before .before .before .before .before .put .ensures, c .before .before .before .before .before .before .before .before .cell .ensures)
+
+pub make-present-spec : {M : Type 1} → statement M
+make-present-spec =
+    tie.close
+    (tie.spec
+    add-cell
+    cell-requires
+    put-requires
+    add-put
+    add-put-2
+    put-requires-2
+    same-length
+    returns)
