@@ -6,3 +6,7 @@ pub mod Tabbing
 pub mod Answers
 pub mod Casts
 pub mod Tallies
+pub mod Agreeing
+pub mod Reversing
+pub mod Signs
+pub mod Writing

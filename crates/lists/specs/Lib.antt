@@ -3,3 +3,4 @@ pub mod Filters
 pub mod Members
 pub mod Tabs
 pub mod Tests
+pub mod Buffers

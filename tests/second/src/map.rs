@@ -349,6 +349,12 @@ impl Map {
         self.ranges.iter().map(|range| range.version).collect()
     }
 
+    /// How many pairs an open range has still to hand out.
+    pub fn pairs_left(&self, version: Version) -> Option<usize> {
+        let range = &self.ranges[self.range_position(version).ok()?];
+        Some(range.snapshot.len() - range.handed_out)
+    }
+
     pub fn pending_nodes(&self) -> &[NodeNumber] {
         &self.pending
     }

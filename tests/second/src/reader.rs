@@ -26,6 +26,10 @@ impl Position {
         positions
     }
 
+    pub fn is_in_header(self) -> bool {
+        matches!(self, Position::Capacity | Position::StartVersion)
+    }
+
     /// Whether the number there must be below 2^32.
     pub fn is_below_two_to_32(self) -> bool {
         match self {
@@ -124,8 +128,9 @@ impl<R: Read> FileReader<R> {
             return Err(stop(code_offset, Position::Code, Cause::UnknownCode));
         };
         let mut numbers = [0; MOST_OPERANDS];
-        for index in 0..SHAPES[usize::from(code)].operands.len() {
-            numbers[index] = self.number(Position::Operand { code, index })?;
+        let operands = SHAPES[usize::from(code)].operands.len();
+        for (index, number) in numbers[..operands].iter_mut().enumerate() {
+            *number = self.number(Position::Operand { code, index })?;
         }
         Ok(Some(Transaction::from_numbers(code, numbers)))
     }

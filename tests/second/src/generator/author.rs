@@ -13,24 +13,30 @@ pub struct Author {
     pub bytes: Vec<u8>,
     /// The keys that the file plays with.
     keys: Vec<i64>,
+    newest_key: Option<i64>,
 }
 
 impl Author {
     /// Begins a file with a capacity that the set-up takes.
     pub fn new(random: Random, capacity: u32, start: Version, keys: Vec<i64>) -> Author {
         let map = Map::set_up(capacity, start).expect("a capacity of the table");
-        Author { random, map, bytes: header_bytes(capacity, start), keys }
+        Author { random, map, bytes: header_bytes(capacity, start), keys, newest_key: None }
     }
 
     pub fn put(&mut self, transaction: Transaction) -> Outcome {
         self.bytes.extend(transaction.bytes());
-        perform(&mut self.map, transaction)
+        let outcome = perform(&mut self.map, transaction);
+        if let (Transaction::Insert { key, .. }, Ok(_)) = (transaction, &outcome) {
+            self.newest_key = Some(key);
+        }
+        outcome
     }
 
-    /// Inserts random keys of the file until so many are present, or the tries run out.
+    /// Inserts random keys of the file until so many are present, or all, or tries run out.
     pub fn fill(&mut self, present: usize) {
-        for _ in 0..4 * present {
-            if self.map.tally().present >= present {
+        let wanted = present.min(self.keys.len());
+        for _ in 0..4 * wanted {
+            if self.map.tally().present >= wanted {
                 return;
             }
             let insert = self.insert(true);
@@ -70,9 +76,28 @@ impl Author {
         self.random.choose(&self.keys)
     }
 
-    /// A key of the file, one beside it, or now and then any key.
+    /// A present key if wanted and there is one, or any key of the file.
+    fn key_maybe_present(&mut self, wanted: bool) -> i64 {
+        let present = self.map.present_pairs(i64::MIN, i64::MAX);
+        if wanted && !present.is_empty() {
+            self.random.choose(&present).0
+        } else {
+            self.key()
+        }
+    }
+
+    /// Often the newest key: its node may be younger than every open range.
+    fn key_to_remove(&mut self, aimed: bool) -> i64 {
+        match self.newest_key {
+            Some(key) if aimed && self.random.chance(30) => key,
+            _ => self.key_maybe_present(aimed),
+        }
+    }
+
+    /// A key of the file, often a present one, one beside it, or now and then any key.
     fn key_nearby(&mut self) -> i64 {
-        let key = self.key();
+        let wants_present = self.random.chance(50);
+        let key = self.key_maybe_present(wants_present);
         match self.random.below(10) {
             0 => key.wrapping_add(1),
             1 => key.wrapping_sub(1),
@@ -103,15 +128,6 @@ impl Author {
         self.random.choose(&[0, u64::MAX, 1 << 63, (1 << 63) - 1, bits, bits, ones])
     }
 
-    fn key_to_remove(&mut self, aimed: bool) -> i64 {
-        let present = self.map.present_pairs(i64::MIN, i64::MAX);
-        if aimed && !present.is_empty() {
-            self.random.choose(&present).0
-        } else {
-            self.key()
-        }
-    }
-
     pub fn node(&mut self, aimed: bool) -> NodeNumber {
         let pending = self.map.pending_nodes();
         if aimed && !pending.is_empty() {
@@ -132,12 +148,13 @@ impl Author {
         Version(self.random.choose(&[past, past, now, now.saturating_add(1), 0, u32::MAX]))
     }
 
+    /// Small rooms, rooms around the limit, and rooms that would be small in fewer bits.
     fn room(&mut self, aimed: bool) -> u32 {
         if !aimed && self.random.chance(50) {
             return 0;
         }
         let few = self.random.between(1, 10) as u32;
-        self.random.choose(&[1, few, few, few, 63, 64, 65, 1000, u32::MAX])
+        self.random.choose(&[1, few, few, few, 63, 64, 65, 256, 257, 65_536, 65_537, u32::MAX])
     }
 
     /// Bounds around keys of the file; now and then l = r, or every key. Not aimed, l > r.

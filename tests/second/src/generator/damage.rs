@@ -2,8 +2,8 @@
 //! at every place, changed bytes, random bytes.
 
 use crate::generator::author::Author;
-use crate::generator::styles::{begin, draw_file, go_on, ALMOST_EMPTY, MIXED};
-use crate::map::Version;
+use crate::generator::styles::{begin, draw_file, go_on, ALMOST_EMPTY, BUFFERS, MIXED};
+use crate::map::{NodeNumber, Version};
 use crate::number::{number_bytes, GROUP, MORE_FOLLOWS, MOST_BYTES};
 use crate::random::Random;
 use crate::reader::{Cause, Position};
@@ -16,20 +16,31 @@ pub struct Damaged {
     pub position: Position,
 }
 
-/// Damages one number by this cause. The position follows the seed, so that as many seeds in a
-/// row as there are positions reach every one of them.
+/// Damages one number of a small file by this cause. The position follows the seed, so that as
+/// many seeds in a row as there are positions reach every one of them.
 pub fn damage(cause: Cause, seed: u64) -> Damaged {
-    let mut positions = Position::all();
-    positions.retain(|&position| cause.can_stop(position));
-    let position = positions[seed as usize % positions.len()];
     let mut author = begin(&ALMOST_EMPTY, Random::new(seed));
     let transactions = author.random.below(12);
     go_on(&mut author, &ALMOST_EMPTY, transactions);
+    let mut positions = Position::all();
+    positions.retain(|&position| cause.can_stop(position));
+    damage_at(positions[seed as usize % positions.len()], cause, author)
+}
 
-    let (mut bytes, before, number) = sound_part(position, &mut author);
-    for number in before {
-        bytes.extend(number_bytes(number));
-    }
+/// Damages a number behind more bytes than any buffer holds, by any cause.
+pub fn damage_far_out(seed: u64) -> Damaged {
+    let mut author = begin(&BUFFERS, Random::new(seed));
+    go_on(&mut author, &BUFFERS, BUFFERS.transactions.0);
+    let cause = Cause::ALL[seed as usize % Cause::ALL.len()];
+    let mut positions = Position::all();
+    positions.retain(|&position| cause.can_stop(position) && !position.is_in_header());
+    let position = author.random.choose(&positions);
+    damage_at(position, cause, author)
+}
+
+/// Puts a damaged number, at this position, behind what is written; often with more behind it.
+fn damage_at(position: Position, cause: Cause, mut author: Author) -> Damaged {
+    let (mut bytes, number) = sound_part(position, &mut author);
     let offset = bytes.len();
     bytes.extend(broken_number(cause, number, &mut author.random));
     let is_cut = matches!(cause, Cause::CutBeforeFirstByte | Cause::CutInTheMiddle);
@@ -39,18 +50,17 @@ pub fn damage(cause: Cause, seed: u64) -> Damaged {
     Damaged { bytes, offset, position }
 }
 
-/// What comes before the number at this position: the bytes of the file, and the numbers of the
-/// same header or transaction; and the number itself.
-fn sound_part(position: Position, author: &mut Author) -> (Vec<u8>, Vec<u64>, u64) {
-    let header = [64, author.random.below(1000)];
+/// The bytes before the number at this position, and the number itself.
+fn sound_part(position: Position, author: &mut Author) -> (Vec<u8>, u64) {
     match position {
-        Position::Capacity => (Vec::new(), Vec::new(), header[0]),
-        Position::StartVersion => (Vec::new(), vec![header[0]], header[1]),
-        Position::Code => (author.bytes.clone(), Vec::new(), author.random.below(14)),
+        Position::Capacity => (Vec::new(), 64),
+        Position::StartVersion => (number_bytes(64), author.random.below(1000)),
+        Position::Code => (author.bytes.clone(), author.random.below(14)),
         Position::Operand { code, index } => {
             let numbers = author.draw(code, true).numbers();
             // The code stands before the operands.
-            (author.bytes.clone(), numbers[..=index].to_vec(), numbers[index + 1])
+            let before = numbers[..=index].iter().copied().flat_map(number_bytes);
+            (author.bytes.iter().copied().chain(before).collect(), numbers[index + 1])
         }
     }
 }
@@ -75,18 +85,18 @@ fn broken_number(cause: Cause, number: u64, random: &mut Random) -> Vec<u8> {
         }
         Cause::MoreThanTenBytes => {
             let mut bytes = full_groups(MOST_BYTES, random);
-            bytes.push(random.choose(&[0, 1, GROUP]));
+            bytes.extend(random.choose(&[None, Some(0), Some(1), Some(GROUP)]));
             bytes
         }
         Cause::PastSixtyFourBits => {
             let mut bytes = full_groups(MOST_BYTES - 1, random);
-            bytes.push(random.between(2, u64::from(GROUP)) as u8);
+            let any = random.between(2, u64::from(GROUP)) as u8;
+            bytes.push(random.choose(&[2, 3, any, GROUP]));
             bytes
         }
         Cause::PastThirtyTwoBits => {
-            let high_bits = random.bits_of_any_length().max(1) << 32;
-            let past = if high_bits == 0 { 1 << 32 } else { high_bits };
-            number_bytes(random.choose(&[1 << 32, (1 << 32) + number, past | number, u64::MAX]))
+            let past = random.between(1 << 32, u64::MAX);
+            number_bytes(random.choose(&[1 << 32, (1 << 32) + number, past, u64::MAX]))
         }
         Cause::UnknownCode => {
             let any = random.bits_of_any_length().max(14);
@@ -98,10 +108,11 @@ fn broken_number(cause: Cause, number: u64, random: &mut Random) -> Vec<u8> {
 
 /// So many bytes that all say that more follow.
 fn full_groups(count: usize, random: &mut Random) -> Vec<u8> {
-    let fill = random.choose(&[MORE_FOLLOWS, 0xFF]);
-    let mixed = random.chance(50);
-    let mut group = || if mixed { random.bits() as u8 | MORE_FOLLOWS } else { fill };
-    (0..count).map(|_| group()).collect()
+    match random.below(3) {
+        0 => vec![MORE_FOLLOWS; count],
+        1 => vec![0xFF; count],
+        _ => (0..count).map(|_| random.bits() as u8 | MORE_FOLLOWS).collect(),
+    }
 }
 
 /// One file with every code and numbers of several bytes, cut at the place the seed says: as
@@ -116,7 +127,7 @@ pub fn cut_in_order(seed: u64) -> Vec<u8> {
         Transaction::Floor { key: high },
         Transaction::Open { low, high },
         Transaction::Remove { key },
-        Transaction::HandOver { node: crate::map::NodeNumber(0) },
+        Transaction::HandOver { node: NodeNumber(0) },
         Transaction::Step { version: Version(301), room: 200 },
         Transaction::FastRange { low, high },
         Transaction::Close { version: Version(301) },

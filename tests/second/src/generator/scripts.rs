@@ -29,8 +29,19 @@ pub fn closes_in_every_order(seed: u64) -> Vec<u8> {
             author.put(Transaction::Close { version }).ok();
             put_drawn(&mut author, 12);
         }
+        clear_away(&mut author);
     }
     author.bytes
+}
+
+/// Hands over and sweeps most of what is left, so that nodes do not run out.
+fn clear_away(author: &mut Author) {
+    while !author.map.pending_nodes().is_empty() && author.random.chance(80) {
+        put_drawn(author, 3);
+    }
+    while author.map.due_count() > 0 && author.random.chance(95) {
+        put_drawn(author, 12);
+    }
 }
 
 /// Removes a key or two and hands over some of what is pending.
@@ -71,9 +82,10 @@ pub fn every_refusal(seed: u64) -> Vec<u8> {
     put_all(&mut author, wrong);
 
     author.fill(FAST_RANGE_LIMIT + 1);
-    let more_than_nodes = i64::from(capacity) + 1;
-    let full = (1000..1000 + more_than_nodes).map(|key| Transaction::Insert { key, value: 0, coin: 0 });
-    put_all(&mut author, full.collect());
+    // More keys than nodes: the last ones find no free node.
+    let keys = 1000..1000 + i64::from(capacity);
+    let inserts = keys.map(|key| Transaction::Insert { key, value: 0, coin: 0 });
+    put_all(&mut author, inserts.collect());
     for _ in 0..TICKETS {
         put_drawn(&mut author, 9);
     }
@@ -133,18 +145,23 @@ fn wrong_when_full(author: &mut Author) -> Vec<Transaction> {
 pub fn around_sixty_four_pairs(seed: u64) -> Vec<u8> {
     let mut random = Random::new(seed);
     let first = random.bits_of_any_length() as i64 / 2;
-    let count = random.between(63, 67) as usize;
-    let keys = (first..first + count as i64).collect();
+    let count = random.between(63, 67) as i64;
+    let mut keys: Vec<i64> = (first..first + count).collect();
+    random.shuffle(&mut keys);
     let capacity = random.choose(&[128, 256]);
-    let mut author = Author::new(random, capacity, Version(0), keys);
-    author.fill(100 * count);
-    let (low, high) = (first, first + count as i64 - 1);
+    let mut author = Author::new(random, capacity, Version(0), keys.clone());
+    let inserts = keys.into_iter().map(|key| Transaction::Insert { key, value: 7, coin: 0 });
+    put_all(&mut author, inserts.collect());
+    let (low, high) = (first, first + count - 1);
     for version in 1..=4 {
-        put_all(&mut author, vec![
-            Transaction::FastRange { low, high },
-            Transaction::FastRange { low: low + 1, high },
-            Transaction::Open { low, high },
-        ]);
+        put_all(
+            &mut author,
+            vec![
+                Transaction::FastRange { low, high },
+                Transaction::FastRange { low: low + 1, high },
+                Transaction::Open { low, high },
+            ],
+        );
         put_drawn(&mut author, 2);
         put_drawn(&mut author, 3);
         for room in [author.random.between(1, 70) as u32, 64, 1] {
@@ -156,8 +173,7 @@ pub fn around_sixty_four_pairs(seed: u64) -> Vec<u8> {
 
 /// A capacity that the set-up refuses, with anything behind the header.
 pub fn refused_set_up(seed: u64) -> Vec<u8> {
-    const REFUSED: [u32; 11] =
-        [0, 63, 65, 257, 512, 1024, 2048, 4096, 8192, 1 << 31, u32::MAX];
+    const REFUSED: [u32; 11] = [0, 63, 65, 257, 512, 1024, 2048, 4096, 8192, 1 << 31, u32::MAX];
     let mut random = Random::new(seed);
     let start = Version(random.choose(&[0, 1, 1 << 31, u32::MAX]));
     let mut bytes = header_bytes(REFUSED[seed as usize % REFUSED.len()], start);

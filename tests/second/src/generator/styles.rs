@@ -12,7 +12,8 @@ pub struct Style {
     keys: fn(&mut Random, u32) -> Vec<i64>,
     /// So many percent of the capacity are inserted at the beginning.
     filled_percent: usize,
-    transactions: (u64, u64),
+    /// The fewest and the most transactions behind the first insertions.
+    pub transactions: (u64, u64),
     /// How often each code is drawn, in the order of the codes.
     weights: [u64; 14],
     /// So many percent of the transactions are not aimed.
@@ -28,7 +29,7 @@ pub const MIXED: Style = Style {
     keys: close_together,
     filled_percent: 10,
     transactions: (20, 120),
-    weights: [4, 14, 10, 9, 3, 3, 3, 3, 4, 5, 10, 4, 5, 2],
+    weights: [4, 14, 9, 10, 3, 3, 3, 3, 4, 4, 10, 5, 11, 2],
     wrong_percent: 15,
 };
 
@@ -39,7 +40,7 @@ pub const COLLIDING: Style = Style { keys: of_one_bucket, ..MIXED };
 pub const READDED: Style = Style {
     keys: few,
     filled_percent: 0,
-    weights: [1, 22, 20, 12, 1, 1, 2, 2, 3, 6, 12, 4, 4, 2],
+    weights: [1, 20, 18, 14, 1, 1, 2, 2, 3, 5, 12, 5, 14, 2],
     wrong_percent: 5,
     ..MIXED
 };
@@ -47,7 +48,7 @@ pub const READDED: Style = Style {
 /// Few ranges, so that hand-overs and sweeps free many nodes, which insertions use again.
 pub const REUSED: Style = Style {
     filled_percent: 20,
-    weights: [1, 20, 18, 16, 0, 0, 0, 0, 1, 2, 1, 3, 10, 3],
+    weights: [1, 20, 16, 18, 0, 0, 0, 0, 1, 2, 1, 3, 14, 3],
     wrong_percent: 3,
     ..MIXED
 };
@@ -57,14 +58,15 @@ pub const FULL: Style = Style {
     capacities: &[64, 64, 128, 256],
     keys: more_than_nodes,
     filled_percent: 100,
-    weights: [1, 25, 10, 8, 1, 1, 1, 1, 3, 4, 6, 4, 6, 3],
+    weights: [1, 20, 12, 12, 1, 1, 1, 1, 3, 4, 6, 5, 12, 3],
     ..MIXED
 };
 
 /// Many ranges at once.
 pub const MANY_RANGES: Style = Style {
     keys: few,
-    weights: [1, 10, 10, 9, 1, 1, 1, 1, 1, 16, 12, 6, 3, 1],
+    transactions: (60, 200),
+    weights: [1, 12, 10, 10, 1, 1, 1, 1, 1, 20, 12, 9, 10, 1],
     wrong_percent: 5,
     ..MIXED
 };
@@ -79,7 +81,7 @@ pub const SCATTERED: Style = Style { keys: scattered, ..MIXED };
 pub const LAST_VERSIONS: Style = Style {
     versions_left: Some(8),
     keys: few,
-    weights: [1, 10, 8, 7, 1, 1, 1, 1, 2, 14, 10, 6, 3, 1],
+    weights: [1, 10, 8, 8, 1, 1, 1, 1, 2, 12, 10, 6, 8, 1],
     ..MIXED
 };
 
@@ -96,7 +98,7 @@ pub const ALMOST_EMPTY: Style = Style {
 };
 
 /// About 200 KB: longer than any buffer.
-pub const BUFFERS: Style = Style { transactions: (42_000, 42_000), keys: scattered, ..MIXED };
+pub const BUFFERS: Style = Style { transactions: (28_000, 28_000), keys: scattered, ..MIXED };
 
 /// The style of a file of millions of transactions.
 pub const LONG: Style = Style { keys: more_than_nodes, filled_percent: 50, ..MIXED };
