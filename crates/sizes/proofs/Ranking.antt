@@ -2,8 +2,9 @@
 -- Assumes nothing.
 use Prim.Native.Nat.{ℕ, suc, _+_, _-_, _^_, _%_, _≤_, _<_}
 use mathlib.Core.Path.{_≡_, refl, sym, ap, _∙_}
-use mathlib.Core.Bool.{Bool, true, false, true≢false}
+use mathlib.Core.Bool.{Bool, true, false, not, true≢false}
 use native.Mathlib.Omega.{arith}
+use native.Mathlib.Decide.{decLt, decLe}
 use native.Mathlib.Nat.{mod-lt}
 use lib.Dec.{T, ltb, leb, leb→le, ltb→lt}
 use lib.IntN.{ℤ, pos, negsuc}
@@ -11,7 +12,7 @@ use lib.Signed.{ltZ, leZ}
 use mir.Syntax.{w64}
 use mir.Val.{SFits, toZ, ofZ}
 use mir.ValLaws.{toZ-ofZ, toZ-pos, toZ-neg}
-use borrow.Author.Tests.{ltb-true, lt-ltb, le-ltb}
+use borrow.Author.Tests.{ltb-true, lt-ltb, le-ltb, le-leb, lt-leb}
 use Rattle.sizes.specs.Rank.{rankOf, keyOf, patternOf, bucketOf}
 
 -- what the code's test on the sign tells
@@ -88,3 +89,42 @@ bucket-high r n h = rw (le-ltb r 9223372036854775808 h)
 pub bucket-lt : (r n : ℕ) → 0 < n → bucketOf r n < n
 unfolding bucketOf
 bucket-lt r n h = mod-lt (patternOf (keyOf r)) h
+
+-- LAW: keys stand in the order of their ranks, and no two ranks have one key
+pub keys-leb : (a b : ℕ) → leZ (keyOf a) (keyOf b) ≡ leb a b
+keys-leb a b = go (decLt a 9223372036854775808) (decLt b 9223372036854775808) (decLe a b)
+  where
+    go : Dec (a < 9223372036854775808) → Dec (b < 9223372036854775808) → Dec (a ≤ b) → leZ (keyOf a) (keyOf b) ≡ leb a b
+    go (yes p) (yes q) (yes r) =
+        rw (lt-ltb a _ p, lt-ltb b _ q, le-leb a b r) (le-leb (9223372036854775807 - b) (9223372036854775807 - a) (omega arith))
+    go (yes p) (yes q) (no r) =
+        rw (lt-ltb a _ p, lt-ltb b _ q, lt-leb a b (omega arith)) (lt-leb (9223372036854775807 - b) (9223372036854775807 - a) (omega arith))
+    go (yes p) (no q) r = rw (lt-ltb a _ p, le-ltb b 9223372036854775808 (omega arith), le-leb a b (omega arith))
+    go (no p) (yes q) r = rw (le-ltb a 9223372036854775808 (omega arith), lt-ltb b _ q, lt-leb a b (omega arith))
+    go (no p) (no q) (yes r) =
+        rw (le-ltb a 9223372036854775808 (omega arith), le-ltb b 9223372036854775808 (omega arith), le-leb a b r)
+        (le-leb (a - 9223372036854775808) (b - 9223372036854775808) (omega arith))
+    go (no p) (no q) (no r) =
+        rw (le-ltb a 9223372036854775808 (omega arith), le-ltb b 9223372036854775808 (omega arith), lt-leb a b (omega arith))
+        (lt-leb (a - 9223372036854775808) (b - 9223372036854775808) (omega arith))
+
+-- not above is below, of integers and of their ranks
+turned : (x y : ℤ) → ltZ x y ≡ not (leZ y x)
+turned (pos a) (pos b) = natural a b
+  where
+    natural : (m n : ℕ) → ltb m n ≡ not (leb n m)
+    natural m n = go (decLt m n)
+      where
+        go : Dec (m < n) → ltb m n ≡ not (leb n m)
+        go (yes h) = rw (lt-ltb m n h, lt-leb n m h)
+        go (no h) = rw (le-ltb m n (omega arith), le-leb n m (omega arith))
+turned (pos a) (negsuc b) = refl
+turned (negsuc a) (pos b) = refl
+turned (negsuc a) (negsuc b) = go (decLt b a)
+  where
+    go : Dec (b < a) → ltb b a ≡ not (leb a b)
+    go (yes h) = rw (lt-ltb b a h, lt-leb a b h)
+    go (no h) = rw (le-ltb b a (omega arith), le-leb a b (omega arith))
+
+pub keys-ltb : (a b : ℕ) → ltZ (keyOf a) (keyOf b) ≡ ltb a b
+keys-ltb a b = turned (keyOf a) (keyOf b) ∙ (ap not (keys-leb b a) ∙ sym (turned (pos a) (pos b)))

@@ -1,0 +1,4 @@
+pub mod Levels
+pub mod Stitch
+pub mod Search
+pub mod Nearest

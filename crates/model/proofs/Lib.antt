@@ -1,0 +1,16 @@
+pub mod Order
+pub mod Nodes
+pub mod Stops
+pub mod Ranges
+pub mod Queue
+pub mod Keep
+pub mod Effects
+pub mod Applied
+pub mod Reached
+pub mod PlainMap
+pub mod Counts
+pub mod Lists
+pub mod Snapshot
+pub mod Demands
+pub mod Situated
+pub mod View

@@ -1,0 +1,14 @@
+-- The table of situations, computed.
+-- Assumes nothing.
+use mathlib.Core.Path.{refl}
+use Rattle.sizes.specs.Sizes.{sizeOf}
+use Rattle.model.specs.Model.{inserting, handPlace, ranging, closeFrom, sweeping, apply, after, history, fresh, setUp}
+use Rattle.model.specs.Situations.{actual, played, expected, Situations, lines, Listed}
+
+pub situations : Situations
+unfolding actual played expected setUp sizeOf fresh after history apply inserting handPlace ranging closeFrom sweeping
+situations = refl
+
+pub listed : Listed
+unfolding lines
+listed = refl
