@@ -1,7 +1,8 @@
 -- What the answer of `find` tells.
 --     finds        it is a present node of the rank, or there is none
 --     finds-one    where no two present nodes have the rank, there is one answer
---     found-at     and a present node is found
+--     found-at     a present node is found, where no other has its rank
+--     found-none   where no present node has the rank, none is found
 -- Assumes nothing.
 use mathlib.Core.Path.{_≡_, refl, sym, _∙_, ap, subst}
 use mathlib.Core.Logic.{inl, inr, ⊎-elim}
@@ -60,13 +61,18 @@ module _ (keys rows buckets : List ℕ) (cap : ℕ) (h : Buckets keys rows bucke
 
       go : (r : Found) → Sought (nth keys) rank (chainFrom (chains rows) cap (firstOf buckets rank)) r → Finds keys rows cap rank r
       go (At n) s = record {
-        node = from-below (chains rows) cap (h .hung .ends (bucketOf rank count) l) n (s .0);
-        here = h .hung .owns (bucketOf rank count) l n (s .0) .0;
+        node = from-below (chains rows) cap (h .chained .ends (bucketOf rank count) l) n (s .0);
+        here = h .chained .owns (bucketOf rank count) l n (s .0) .0;
         key = s .1;
       }
-      go Nothing s = λ n o. s n (subst (λ (z : ℕ). In n (chainFrom (chains rows) cap (firstOf buckets z))) (o .key) (h .hung .has n (o .node) (o .here))) (o .key)
+      go Nothing s = λ n o. s n (subst (λ (z : ℕ). In n (chainFrom (chains rows) cap (firstOf buckets z))) (o .key) (h .chained .has n (o .node) (o .here))) (o .key)
 
   -- LAW: a present node is found, where no other has its rank
   pub found-at : (rank n : ℕ) → ((m : ℕ) → Holds keys rows cap rank m → m ≡ n) → Holds keys rows cap rank n → found keys rows buckets cap rank ≡ At n
   found-at rank n one o =
       finds-one keys rows cap rank (λ a b f g. one a f ∙ sym (one b g)) (found keys rows buckets cap rank) (At n) (finds rank refl) o
+
+  -- LAW: where no present node has the rank, none is found
+  pub found-none : (rank : ℕ) → ((n : ℕ) → Holds keys rows cap rank n → ⊥) → found keys rows buckets cap rank ≡ Nothing
+  found-none rank none =
+      finds-one keys rows cap rank (λ a b f g. absurd (none a f)) (found keys rows buckets cap rank) Nothing (finds rank refl) none

@@ -4,7 +4,8 @@
 --     buckets-kept       stores to columns other than chain and place
 --     buckets-placed     the place of a node changes from one that is not present to another
 --     buckets-added, buckets-dropped    an insertion, with `add`, and a removal, with `drop`
---     joinable, on-chain    what `add` and `drop` require
+--     joinable, on-chain, on-chain-same    what `add` and `drop` require
+--     present-on-chain   a present node is on the chain of its bucket
 --     once, apart        no node is on a chain twice, and none is on two chains
 -- Assumes nothing.
 use mathlib.Core.Path.{_≡_, refl, sym, _∙_, ap, subst}
@@ -33,9 +34,17 @@ pub buckets-fresh : (keys rows : List ℕ) (count cap : ℕ) → Room keys rows 
     → Buckets keys rows (replicate count cap) cap
 buckets-fresh keys rows count cap room none = record {
   room = rw (length-replicate count cap) room;
-  hung =
+  chained =
       rw (length-replicate count cap)
       (empty cap count (nth (replicate count cap)) (chains rows) (home keys count) (Present rows) (λ b l. getD-replicate count b cap 0 l) none);
+}
+
+-- LAW: what `drop` requires, after stores to other columns
+pub on-chain-same : (rows rows′ buckets : List ℕ) (cap rank n : ℕ) → OnChain rows buckets cap rank n → chains rows′ ≡ chains rows → cap * 32 ≤ length rows′
+    → OnChain rows′ buckets cap rank n
+on-chain-same rows rows′ buckets cap rank n o e l = record {
+  some = o .some;
+  reached = record { rowed = l; ends = rw e (o .reached .ends); met = rw e (o .reached .met) };
 }
 
 module _ (keys rows buckets : List ℕ) (cap : ℕ) (h : Buckets keys rows buckets cap) where
@@ -55,17 +64,21 @@ module _ (keys rows buckets : List ℕ) (cap : ℕ) (h : Buckets keys rows bucke
     some = h .room .some;
     reached = record {
       rowed = h .room .rowed;
-      ends = h .hung .ends (bucketOf rank count) (bucket-lt rank count (h .room .some));
-      met = subst (λ (z : ℕ). In n (chainFrom (chains rows) cap (firstOf buckets z))) (o .key) (h .hung .has n (o .node) (o .here));
+      ends = h .chained .ends (bucketOf rank count) (bucket-lt rank count (h .room .some));
+      met = subst (λ (z : ℕ). In n (chainFrom (chains rows) cap (firstOf buckets z))) (o .key) (h .chained .has n (o .node) (o .here));
     };
   }
 
+  -- LAW: a present node is never missing from its bucket
+  pub present-on-chain : (n : ℕ) → n < cap → Present rows n → In n (chainFrom (chains rows) cap (firstOf buckets (nth keys n)))
+  present-on-chain n l w = h .chained .has n l w
+
   -- LAW: no node is on a chain twice, and none is on two chains
   pub once : (b : ℕ) → b < count → Distinct (chainFrom (chains rows) cap (nth buckets b))
-  once b l = from-distinct (chains rows) cap (h .hung .ends b l)
+  once b l = from-distinct (chains rows) cap (h .chained .ends b l)
 
   pub apart : (a b n : ℕ) → a < count → b < count → In n (chainFrom (chains rows) cap (nth buckets a)) → In n (chainFrom (chains rows) cap (nth buckets b)) → a ≡ b
-  apart a b n k l i j = sym (h .hung .owns a k n i .1) ∙ h .hung .owns b l n j .1
+  apart a b n k l i j = sym (h .chained .owns a k n i .1) ∙ h .chained .owns b l n j .1
 
   -- LAW: the chains stay, no node becomes present or ceases to be, and present nodes keep their keys
   pub buckets-same : (keys′ rows′ : List ℕ) → cap ≤ length keys′ → cap * 32 ≤ length rows′
@@ -76,8 +89,8 @@ module _ (keys rows buckets : List ℕ) (cap : ℕ) (h : Buckets keys rows bucke
       → Buckets keys′ rows′ buckets cap
   buckets-same keys′ rows′ lk lr ec to from ek = record {
     room = record { keyed = lk; rowed = lr; some = h .room .some };
-    hung =
-        stays cap count (nth buckets) (chains rows) (home keys count) (Present rows) (chains rows′) (home keys′ count) (Present rows′) (h .hung)
+    chained =
+        stays cap count (nth buckets) (chains rows) (home keys count) (Present rows) (chains rows′) (home keys′ count) (Present rows′) (h .chained)
         (record {
           next-s = λ n l w. ap (λ (f : ℕ → ℕ). f n) ec;
           home-s = λ n l w. ap (λ (k : ℕ). bucketOf k count) (ek n l w);
@@ -124,9 +137,9 @@ module _ (keys rows buckets : List ℕ) (cap : ℕ) (h : Buckets keys rows bucke
         let s : length buckets′ ≡ count = ap (length {A = ℕ}) eb ∙ length-set buckets b n in
         record {
           room = record { keyed = lk; rowed = lr; some = rw s (h .room .some) };
-          hung =
+          chained =
               rw s
-              (joins cap count (nth buckets) (chains rows) (home keys count) (Present rows) (nth buckets′) (chains rows′) (home keys′ count) (Present rows′) n (h .hung)
+              (joins cap count (nth buckets) (chains rows) (home keys count) (Present rows) (nth buckets′) (chains rows′) (home keys′ count) (Present rows′) n (h .chained)
               (record {
                 node = node;
                 new = new;
@@ -154,9 +167,9 @@ module _ (keys rows buckets : List ℕ) (cap : ℕ) (h : Buckets keys rows bucke
         let s : length buckets′ ≡ count = ap (length {A = ℕ}) eb ∙ without-buckets rows buckets rank n in
         record {
           room = record { keyed = h .room .keyed; rowed = lr; some = rw s (h .room .some) };
-          hung =
+          chained =
               rw s
-              (leaves cap count (nth buckets) (chains rows) (home keys count) (Present rows) (nth buckets′) (chains rows′) (Present rows′) n (h .hung)
+              (leaves cap count (nth buckets) (chains rows) (home keys count) (Present rows) (nth buckets′) (chains rows′) (Present rows′) n (h .chained)
               (record {
                 node = o .node;
                 here = o .here;

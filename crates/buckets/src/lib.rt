@@ -23,7 +23,7 @@ pub enum Found {
 }
 
 // What the test of a chain finds: how much of its budget is left, or that the chain is bad.
-pub enum Walked {
+enum Walked {
     Rest(u32),
     Bad,
 }
@@ -90,10 +90,10 @@ pub fn drop(rows: &mut [u32], buckets: &mut [u32], cap: u32, rank: u64, n: u32)
 pub fn clear(buckets: &mut [u32], cap: u32)
     ensures { λ r. ⌜ now (buckets .exit) ≡ replicate (length (now (buckets .entry))) cap ⌝ }
 {
-    let mut b = 0;
-    while b < buckets.len() {
-        buckets[b] = cap;
-        b += 1;
+    let mut i = 0;
+    while i < buckets.len() {
+        buckets[i] = cap;
+        i += 1;
     }
 }
 
@@ -103,12 +103,12 @@ fn count_present(rows: &[u32], cap: u32) -> u32
     ensures { λ r. ⌜ r ≡ length (presents (now (rows .entry)) cap) ⌝ }
 {
     let mut total = 0;
-    let mut n = 0;
-    while n < cap {
-        if cell(rows, n, PLACE) == IS_PRESENT {
+    let mut node = 0;
+    while node < cap {
+        if cell(rows, node, PLACE) == IS_PRESENT {
             total += 1;
         }
-        n += 1;
+        node += 1;
     }
     total
 }
@@ -126,23 +126,23 @@ fn chain_ok(
     requires { ⌜ Room (now keys) (now rows) count cap ⌝ }
     ensures { λ r. ⌜ Walks cap (chains (now (rows .entry))) (Fits (now (keys .entry)) (now (rows .entry)) count b) first left r ⌝ }
 {
-    let mut n = first;
+    let mut node = first;
     let mut rest = left;
-    while n != cap {
+    while node != cap {
         if rest == 0 {
             return Walked::Bad;
         }
-        if n > cap {
+        if node > cap {
             return Walked::Bad;
         }
-        if cell(rows, n, PLACE) != IS_PRESENT {
+        if cell(rows, node, PLACE) != IS_PRESENT {
             return Walked::Bad;
         }
-        if bucket_of(keys[wide(n)], count) != b {
+        if bucket_of(keys[wide(node)], count) != b {
             return Walked::Bad;
         }
         rest -= 1;
-        n = cell(rows, n, CHAIN);
+        node = cell(rows, node, CHAIN);
     }
     Walked::Rest(rest)
 }

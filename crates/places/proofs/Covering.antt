@@ -1,10 +1,9 @@
 -- An order of nodes that are not free, which with the free ones is as many as there are, has them all.
 -- Assumes nothing.
-use mathlib.Core.Path.{_≡_, refl, sym, ap, _∙_}
+use Prim.Native.Nat.{ℕ, _+_, _<_}
+use mathlib.Core.Path.{_≡_, sym, _∙_}
 use mathlib.Core.Logic.{_≢_, _⊎_, ⊎-elim}
-use mathlib.Core.Bool.{true}
 use mathlib.Core.List.{List, _++_}
-use Prim.Native.Nat.{ℕ, _+_, _<_, _≤_}
 use native.Mathlib.Omega.{arith}
 use lib.ListN.{length, length-append}
 use lib.Dec.{eqb}
@@ -16,7 +15,7 @@ use Rattle.lists.proofs.Pigeons.{covers, fills, in-append, distinct-append}
 use Rattle.lists.proofs.Splits.{all-in}
 use Rattle.lists.proofs.Tallies.{in-filter, filter-in, distinct-filter, same-members}
 use Rattle.rows.specs.Rows.{places}
-use Rattle.places.specs.Places.{freeOf, ringOf, Places, nodesIn}
+use Rattle.places.specs.Places.{presentCount, freeOf, ringOf, Places, nodesIn, Counted}
 use Rattle.places.proofs.Members.{in-free, free-distinct, in-ring, ring-distinct}
 use Rattle.places.proofs.Counting.{in-nodes, nodes-in, nodes-distinct}
 
@@ -58,6 +57,10 @@ module _ (rows : List ℕ) (cap : ℕ) (order : List ℕ) (P : Places rows cap) 
       (λ n i.
       let t = in-nodes (places rows) p cap n i in
       filter-in (λ n. eqb (places rows n) p) n order (covered n (t .0) (λ e. d (sym (t .1) ∙ e))) (eq-eqb (places rows n) p (t .1)))
+
+  -- LAW: the stored count is that of the present nodes of the order
+  pub order-present : Counted rows cap → presentCount rows cap ≡ length (filter (λ n. eqb (places rows n) 1) order)
+  order-present C = C ∙ sym (order-nodes 1 (omega arith))
 
 -- LAW: where as many nodes are retired as are in the ring, they are those of the ring
 pub all-retired : (rows : List ℕ) (cap : ℕ) → Places rows cap → length (nodesIn (places rows) 3 cap) ≡ length (ringOf rows cap)

@@ -1,12 +1,12 @@
 -- The rows after a node is released, and after one is drawn.
 -- Assumes nothing.
-use mathlib.Core.Path.{_≡_, refl, sym, ap, _∙_, subst}
+use Prim.Native.Nat.{ℕ, _+_, _-_, _<_}
+use mathlib.Core.Path.{_≡_, refl, sym, ap, _∙_}
 use mathlib.Core.Logic.{_≢_}
-use mathlib.Core.List.{List, [], _∷_}
-use Prim.Native.Nat.{ℕ, _+_, _-_, _*_, _<_, _≤_}
+use mathlib.Core.List.{List, _∷_}
 use native.Mathlib.Omega.{arith}
 use lib.ListN.{length}
-use Rattle.lists.specs.Members.{In, Distinct}
+use Rattle.lists.specs.Members.{In}
 use Rattle.rows.specs.Rows.{column, upd, places, seats, frees, rings}
 use Rattle.rows.proofs.Columns.{upd-same, upd-other}
 use Rattle.places.specs.Places.{Sized, slot, freeCount, ringFront, ringCount, presentCount, freeOf, ringOf, firstFree, Places}
@@ -14,7 +14,7 @@ use Rattle.places.specs.Changes.{drawn, released}
 use Rattle.places.proofs.Lists.{free-length, stacked-same, stacked-push, stacked-pop, stacked-head}
 use Rattle.places.proofs.Stores.{Elsewhere, length-stored, column-stored, column-missed}
 use Rattle.places.proofs.Seats.{seats-keep, seats-push}
-use Rattle.places.proofs.Members.{in-free, free-distinct, free-room, off-stack, off-ring}
+use Rattle.places.proofs.Members.{free-distinct, free-room, off-stack, off-ring}
 
 -- ---- released
 

@@ -9,3 +9,4 @@ pub mod Marking
 pub mod Clearing
 pub mod Counting
 pub mod Covering
+pub mod Frames

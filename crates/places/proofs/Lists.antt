@@ -1,16 +1,15 @@
 -- Laws of `stacked` and `queued`, the free stack and the ring as lists.
 -- Assumes nothing.
-use mathlib.Core.Path.{_≡_, refl, sym, ap, ap₂, _∙_}
+use Prim.Native.Nat.{ℕ, zero, suc, _+_, _-_, _<_, _≤_}
+use mathlib.Core.Path.{_≡_, refl, ap, ap₂, _∙_}
 use mathlib.Core.Logic.{_≢_, _⊎_, inl, inr}
 use mathlib.Core.List.{List, [], _∷_, _++_}
-use Prim.Native.Nat.{ℕ, zero, suc, _+_, _-_, _<_, _≤_}
 use native.Mathlib.Omega.{arith}
 use native.Mathlib.Decide.{decLt}
 use native.Mathlib.Numerals.{add-one}
 use lib.ListN.{length}
 use Rattle.lists.specs.Filters.{headOr, count}
 use Rattle.lists.specs.Members.{In, Distinct}
-use Rattle.lists.specs.Tabs.{tab}
 use Rattle.lists.proofs.Tabbing.{tab-length, tab-ext, tab-snoc, in-tab, tab-in, tab-distinct}
 use Rattle.rows.specs.Rows.{frees, rings}
 use Rattle.places.specs.Places.{wrapped, slot, stacked, queued, freeCount, ringFront, ringCount, freeOf, ringOf}

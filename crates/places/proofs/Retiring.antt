@@ -1,12 +1,12 @@
 -- The rows after a node is retired, and after the front of the ring is taken.
 -- Assumes nothing.
-use mathlib.Core.Path.{_≡_, refl, sym, ap, _∙_, subst}
+use Prim.Native.Nat.{ℕ, suc, _+_, _-_, _<_}
+use mathlib.Core.Path.{_≡_, refl, sym, ap, _∙_}
 use mathlib.Core.Logic.{_≢_}
 use mathlib.Core.List.{List, [], _∷_, _++_}
-use Prim.Native.Nat.{ℕ, suc, _+_, _-_, _*_, _<_, _≤_}
 use native.Mathlib.Omega.{arith}
 use lib.ListN.{length}
-use Rattle.lists.specs.Members.{In, Distinct}
+use Rattle.lists.specs.Members.{In}
 use Rattle.rows.specs.Rows.{column, upd, places, seats, frees, rings}
 use Rattle.rows.proofs.Columns.{upd-same, upd-other}
 use Rattle.places.specs.Places.{Sized, wrapped, slot, freeCount, ringFront, ringCount, presentCount, freeOf, ringOf, firstRetired, Seated, Places}

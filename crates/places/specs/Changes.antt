@@ -1,8 +1,8 @@
 -- What the changes of a node's place store: the rows after each are a function of the rows before.
 -- Assumes nothing.
-use mathlib.Core.List.{List, [], _∷_}
 use Prim.Native.Nat.{ℕ, zero, suc, _+_, _-_}
-use Rattle.places.specs.Stores.{Store, store, stored}
+use mathlib.Core.List.{List, [], _∷_}
+use Rattle.places.specs.Stores.{store, stored}
 use Rattle.places.specs.Places.{freeCount, ringFront, ringCount, presentCount, wrapped, slot}
 
 -- the columns

@@ -2,10 +2,10 @@
 -- The stack's i-th entry stands in row i, and so for the ring. The head's row holds the number of free nodes and where the ring begins,
 -- the tail's row how many are in the ring and how many nodes are present. Places: 0 free, 1 present, 2 pending, 3 retired.
 -- Assumes nothing.
+use Prim.Native.Nat.{ℕ, zero, suc, _+_, _-_, _*_, _<_, _≤_}
 use mathlib.Core.Path.{_≡_}
 use mathlib.Core.Bool.{cond}
 use mathlib.Core.List.{List, [], _∷_}
-use Prim.Native.Nat.{ℕ, zero, suc, _+_, _-_, _*_, _<_, _≤_}
 use lib.ListN.{length}
 use lib.Dec.{ltb, eqb}
 use Rattle.lists.specs.Filters.{filter, headOr, count}

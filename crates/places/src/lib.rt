@@ -116,13 +116,13 @@ pub fn clear_places(rows: &mut [u32], cap: u32)
     requires { ⌜ Sized (now rows) cap ⌝ }
     ensures { λ r. ⌜ now (rows .exit) ≡ cleared (now (rows .entry)) cap ⌝ }
 {
-    let mut n: u32 = 0;
-    while n < cap {
-        let seat = cap - 1 - n;
-        put(rows, n, PLACE, IS_FREE);
-        put(rows, n, SEAT, seat);
-        put(rows, n, FREE, seat);
-        n += 1;
+    let mut i: u32 = 0;
+    while i < cap {
+        let seat = cap - 1 - i;
+        put(rows, i, PLACE, IS_FREE);
+        put(rows, i, SEAT, seat);
+        put(rows, i, FREE, seat);
+        i += 1;
     }
     put(rows, cap, FREE, cap);
     put(rows, cap, RING, 0);

@@ -12,10 +12,10 @@ use Rattle.buckets.proofs.chain_ok.Statement.{statement}
 use Rattle.buckets.proofs.chain_ok.Tie as tie
 
 abbrev Inv-loop : tie.InvT-loop
-Inv-loop keys rows cap count b first left n₀ rest₀ n rest = (w : Walked) → Walks cap (chains rows) (Fits keys rows count b) n rest w → Walks cap (chains rows) (Fits keys rows count b) first left w
+Inv-loop keys rows cap count b first left node₀ rest₀ node rest = (w : Walked) → Walks cap (chains rows) (Fits keys rows count b) node rest w → Walks cap (chains rows) (Fits keys rows count b) first left w
 
 abbrev μ-loop : tie.MeasureT-loop
-μ-loop keys rows cap count b first left n₀ rest₀ n rest = rest
+μ-loop keys rows cap count b first left node₀ rest₀ node rest = rest
 
 loop-holds : tie.Need-loop-holds Inv-loop μ-loop
 loop-holds c = λ w h. h
@@ -71,7 +71,7 @@ loop-again c =
     let e = c .before .before .bucket-of .ensures .0 in
     let p = sym (c .before .before .before .before .before .before .cell .ensures) ∙ c .before .before .before .before .before .if3 .left in
     let q = sym (rw (c .before .before .before .before .wide .ensures) at e) ∙ c .before .if4 .left in
-    rw (c .cell2 .ensures) (λ w h. v .inv w (walk-more _ _ _ (v .n) (v .rest) (omega arith) (p, q) (omega arith) w h))
+    rw (c .cell2 .ensures) (λ w h. v .inv w (walk-more _ _ _ (v .node) (v .rest) (omega arith) (p, q) (omega arith) w h))
 
 returns-5 : tie.Need-returns-5 Inv-loop μ-loop
 returns-5 c = c .before .loop .inv (Rest _) (walk-end _ _ _ _ (c .loop-test .left))

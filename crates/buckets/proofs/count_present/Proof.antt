@@ -11,10 +11,10 @@ use Rattle.buckets.proofs.count_present.Statement.{statement}
 use Rattle.buckets.proofs.count_present.Tie as tie
 
 abbrev Inv-loop : tie.InvT-loop
-Inv-loop rows cap total₀ n₀ total n = (n ≤ cap) × ((total ≡ length (presents rows n)) × (total ≤ n))
+Inv-loop rows cap total₀ node₀ total node = (node ≤ cap) × ((total ≡ length (presents rows node)) × (total ≤ node))
 
 abbrev μ-loop : tie.MeasureT-loop
-μ-loop rows cap total₀ n₀ total n = cap - n
+μ-loop rows cap total₀ node₀ total node = cap - node
 
 loop-holds : tie.Need-loop-holds Inv-loop μ-loop
 loop-holds c = (omega arith, (refl, omega arith))
@@ -25,8 +25,8 @@ cell-requires c κs = omega arith
 add-total : tie.Need-add-total Inv-loop μ-loop
 add-total c = omega arith
 
-add-n : tie.Need-add-n Inv-loop μ-loop
-add-n c = omega arith
+add-node : tie.Need-add-node Inv-loop μ-loop
+add-node c = omega arith
 
 loop-less : tie.Need-loop-less Inv-loop μ-loop
 loop-less c = omega arith
@@ -37,14 +37,14 @@ loop-again c =
     let rows = c .before .before .before .before .before .args .rows .now in
     let e = c .before .cell .ensures in
     ⊎-elim
-    (λ w. (omega arith, (omega (arith, presents-yes rows (v .n) (sym e ∙ w .0 .taken)), omega arith)))
-    (λ w. (omega arith, (omega (arith, presents-no rows (v .n) (λ q. w .0 .left (e ∙ q))), omega arith)))
+    (λ w. (omega arith, (omega (arith, presents-yes rows (v .node) (sym e ∙ w .0 .taken)), omega arith)))
+    (λ w. (omega arith, (omega (arith, presents-no rows (v .node) (λ q. w .0 .left (e ∙ q))), omega arith)))
     (c .if1 .came)
 
 returns : tie.Need-returns Inv-loop μ-loop
 returns c =
     let a = c .before .before .before .args in
-    let e : c .before .loop .n ≡ a .cap = omega arith in
+    let e : c .before .loop .node ≡ a .cap = omega arith in
     c .before .loop .inv .1 .0 ∙ ap (λ (n : ℕ). length (presents (a .rows .now) n)) e
 
 pub count-present-spec : {M : Type 1} → statement M
@@ -56,7 +56,7 @@ count-present-spec =
     loop-holds
     cell-requires
     add-total
-    add-n
+    add-node
     loop-less
     loop-again
     returns)

@@ -31,7 +31,7 @@ loop-holds : tie.Need-loop-holds Inv-loop μ-loop
 unfolding found
 loop-holds c =
     let q = c .before .bucket-of in
-    let h = c .before .before .before .before .before .pre .hung .ends (q .result) (q .ensures .1) in
+    let h = c .before .before .before .before .before .pre .chained .ends (q .result) (q .ensures .1) in
     (headed _ _ h, (h, rw (q .ensures .0)))
 
 wide-requires : tie.Need-wide-requires Inv-loop μ-loop

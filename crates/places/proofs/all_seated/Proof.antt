@@ -1,13 +1,13 @@
 -- `places::all_seated` meets its contract. The invariant: the seats passed are held so.
 -- Assumes nothing.
+use Prim.Native.Nat.{_≤_, _-_}
 use native.Mathlib.Omega.{arith}
-use Prim.Native.Nat.{_≤_, _<_, _-_}
 use native.Mathlib.Nat.{lt-of-lt-of-le}
-use Rattle.places.proofs.Wraps.{slot-lt}
-use Rattle.places.specs.Places.{slot, Seated}
-use Rattle.rows.specs.Rows.{column, places, seats}
 use Rattle.lists.specs.Tests.{Each}
 use Rattle.lists.proofs.Answers.{failed, passed, none-yet, one-more, all-no, all-yes}
+use Rattle.rows.specs.Rows.{column, places, seats}
+use Rattle.places.specs.Places.{slot, Seated}
+use Rattle.places.proofs.Wraps.{slot-lt}
 use Rattle.places.proofs.all_seated.Statement.{statement}
 use Rattle.places.proofs.all_seated.Tie as tie
 
@@ -28,11 +28,15 @@ wrap-requires c κs = tt
 
 seated-requires : tie.Need-seated-requires Inv-loop μ-loop
 seated-requires c κs =
-    let s = c .before .before .before .before .pre in
+    let c4 = c .before .before .before .before in
+    let s = c4 .pre in
     (s .0, s .1, rw (c .wrap .ensures) (slot-lt (s .2) (lt-of-lt-of-le (c .before .loop-test .taken) (s .3))))
 
 returns : tie.Need-returns Inv-loop μ-loop
-returns c = all-no _ (c .before .before .before .loop-test .taken) (failed (rw (c .before .before .wrap .ensures) at (c .before .seated .ensures)) (c .if1 .taken))
+returns c =
+    let c2 = c .before .before in
+    let c3 = c2 .before in
+    all-no _ (c3 .loop-test .taken) (failed (rw (c2 .wrap .ensures) at (c .before .seated .ensures)) (c .if1 .taken))
 
 add-i : tie.Need-add-i Inv-loop μ-loop
 add-i c = omega arith
@@ -41,7 +45,10 @@ loop-less : tie.Need-loop-less Inv-loop μ-loop
 loop-less c = omega arith
 
 loop-again : tie.Need-loop-again Inv-loop μ-loop
-loop-again c = (omega arith, one-more _ (c .before .before .before .before .loop .inv .1) (passed (rw (c .before .before .wrap .ensures) at (c .before .seated .ensures)) (c .if1 .left)))
+loop-again c =
+    let c2 = c .before .before in
+    let c4 = c2 .before .before in
+    (omega arith, one-more _ (c4 .loop .inv .1) (passed (rw (c2 .wrap .ensures) at (c .before .seated .ensures)) (c .if1 .left)))
 
 returns-2 : tie.Need-returns-2 Inv-loop μ-loop
 returns-2 c = all-yes _ (c .loop-test .left) (c .before .loop .inv .1)

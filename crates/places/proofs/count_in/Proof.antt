@@ -1,8 +1,8 @@
 -- `places::count_in` meets its contract. The invariant: k of the nodes below n are in the place.
 -- Assumes nothing.
-use native.Mathlib.Omega.{arith}
 use Prim.Native.Nat.{_+_, _≤_, _-_}
 use mathlib.Core.Path.{_≡_, refl, sym, ap, _∙_}
+use native.Mathlib.Omega.{arith}
 use lib.ListN.{length}
 use Rattle.rows.specs.Rows.{places}
 use Rattle.places.specs.Places.{nodesIn}
@@ -33,20 +33,25 @@ loop-less c = omega arith
 
 loop-again : tie.Need-loop-again Inv-loop μ-loop
 loop-again c =
-    let more = nodes-yes (places (c .before .before .before .before .before .args .rows .now)) (c .before .before .before .before .before .args .p) (c .before .before .before .loop .n) (sym (c .before .cell .ensures) ∙ c .if1 .taken) in
-    (omega arith, omega arith, ap (λ x. x + 1) (c .before .before .before .loop .inv .2) ∙ sym more)
+    let c3 = c .before .before .before in
+    let c5 = c3 .before .before in
+    let more = nodes-yes (places (c5 .args .rows .now)) (c5 .args .p) (c3 .loop .n) (sym (c .before .cell .ensures) ∙ c .if1 .taken) in
+    (omega arith, omega arith, ap (λ x. x + 1) (c3 .loop .inv .2) ∙ sym more)
 
 loop-less-2 : tie.Need-loop-less-2 Inv-loop μ-loop
 loop-less-2 c = omega arith
 
 loop-again-2 : tie.Need-loop-again-2 Inv-loop μ-loop
 loop-again-2 c =
-    let same = nodes-no (places (c .before .before .before .before .before .args .rows .now)) (c .before .before .before .before .before .args .p) (c .before .before .before .loop .n) (λ e. c .if1 .left (c .before .cell .ensures ∙ e)) in
-    (omega arith, omega arith, c .before .before .before .loop .inv .2 ∙ sym same)
+    let c3 = c .before .before .before in
+    let c5 = c3 .before .before in
+    let same = nodes-no (places (c5 .args .rows .now)) (c5 .args .p) (c3 .loop .n) (λ e. c .if1 .left (c .before .cell .ensures ∙ e)) in
+    (omega arith, omega arith, c3 .loop .inv .2 ∙ sym same)
 
 returns : tie.Need-returns Inv-loop μ-loop
 returns c =
-    let all : c .before .loop .n ≡ c .before .before .before .args .cap = omega (arith, c .loop-test .left, c .before .loop .inv .0) in
+    let c3 = c .before .before .before in
+    let all : c .before .loop .n ≡ c3 .args .cap = omega (arith, c .loop-test .left, c .before .loop .inv .0) in
     c .before .loop .inv .2 ∙ rw all
 
 pub count-in-spec : {M : Type 1} → statement M

@@ -2,7 +2,6 @@
 -- Assumes nothing.
 use mathlib.Core.Path.{sym, _∙_}
 use borrow.Author.Tests.{eq-eqb, eqb-true}
-use Rattle.lists.proofs.Answers.{never}
 use borrow.Author.Needs.{needs}
 use Rattle.places.proofs.counted_ok.Statement.{statement}
 use Rattle.places.proofs.counted_ok.Tie as tie

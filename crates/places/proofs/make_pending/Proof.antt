@@ -1,8 +1,8 @@
 -- `places::make_pending` meets its contract.
 -- Assumes nothing.
+use borrow.Author.Needs.{needs}
 use Rattle.places.specs.Stores.{stored}
 use Rattle.places.specs.Changes.{marked}
-use borrow.Author.Needs.{needs}
 use Rattle.places.proofs.make_pending.Statement.{statement}
 use Rattle.places.proofs.make_pending.Tie as tie
 
@@ -29,7 +29,11 @@ same-length c = search needs
 
 returns : tie.Need-returns
 unfolding marked stored
-returns c = rw (c .before .before .put2 .ensures, c .before .before .before .before .before .before .put .ensures, c .before .before .before .before .before .before .before .before .cell .ensures)
+returns c =
+    let c2 = c .before .before in
+    let c6 = c2 .before .before .before .before in
+    let c8 = c6 .before .before in
+    rw (c2 .put2 .ensures, c6 .put .ensures, c8 .cell .ensures)
 
 pub make-pending-spec : {M : Type 1} → statement M
 make-pending-spec =

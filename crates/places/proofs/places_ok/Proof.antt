@@ -1,11 +1,9 @@
 -- `places::places_ok` meets its contract.
 -- Assumes nothing.
-use Prim.Native.Nat.{_≤_}
-use Rattle.rows.specs.Rows.{places, seats, frees}
-use Rattle.places.proofs.Seats.{as-ring, as-stack}
 use native.Mathlib.Omega.{arith}
-use Rattle.lists.proofs.Answers.{no, yes!, failed, passed}
 use borrow.Author.Needs.{needs}
+use Rattle.lists.proofs.Answers.{no, yes!, failed, passed}
+use Rattle.places.proofs.Seats.{as-ring, as-stack}
 use Rattle.places.proofs.places_ok.Statement.{statement}
 use Rattle.places.proofs.places_ok.Tie as tie
 
@@ -34,26 +32,39 @@ all-seated-requires : tie.Need-all-seated-requires
 all-seated-requires c κs = search needs
 
 returns-4 : tie.Need-returns-4
-returns-4 c = no (λ P. failed (rw (c .before .before .before .before .before .before .before .cell .ensures) at (c .before .all-seated .ensures)) (c .if4 .taken) (as-ring _ _ _ _ _ _ (P .spares) (P .idle)))
+returns-4 c =
+    let c7 = c .before .before .before .before .before .before .before in
+    no (λ P. failed (rw (c7 .cell .ensures) at (c .before .all-seated .ensures)) (c .if4 .taken) (as-ring _ _ _ _ _ _ (P .spares) (P .idle)))
 
 all-seated-requires-2 : tie.Need-all-seated-requires-2
 all-seated-requires-2 c κs = search needs
 
 returns-5 : tie.Need-returns-5
-returns-5 c = no (λ P. failed (rw (c .before .before .before .before .before .before .before .before .cell2 .ensures, c .before .before .before .before .before .before .before .cell3 .ensures) at (c .before .all-seated2 .ensures)) (c .if5 .taken) (P .gone))
+returns-5 c =
+    let c7 = c .before .before .before .before .before .before .before in
+    let c8 = c7 .before in
+    no (λ P. failed (rw (c8 .cell2 .ensures, c7 .cell3 .ensures) at (c .before .all-seated2 .ensures)) (c .if5 .taken) (P .gone))
 
 returns-6 : tie.Need-returns-6
 returns-6 c =
-    let spare = c .before .before .before .before .before .before .before .before .before .cell .ensures in
-    let front = c .before .before .before .before .before .before .before .before .cell2 .ensures in
-    let few = c .before .before .before .before .before .before .before .cell3 .ensures in
-    let short = rw spare at (c .before .before .before .before .before .before .if1 .left) in
+    let c2 = c .before .before in
+    let c3 = c2 .before in
+    let c4 = c3 .before in
+    let c5 = c4 .before in
+    let c6 = c5 .before in
+    let c7 = c6 .before in
+    let c8 = c7 .before in
+    let c9 = c8 .before in
+    let spare = c9 .cell .ensures in
+    let front = c8 .cell2 .ensures in
+    let few = c7 .cell3 .ensures in
+    let short = rw spare at (c6 .if1 .left) in
     yes!
     (record {
       spares = short;
-      idle = as-stack _ _ _ _ _ _ short (passed (rw spare at (c .before .before .before .all-seated .ensures)) (c .before .before .if4 .left));
-      front = rw front at (c .before .before .before .before .before .if2 .left);
-      few = rw few at (c .before .before .before .before .if3 .left);
+      idle = as-stack _ _ _ _ _ _ short (passed (rw spare at (c3 .all-seated .ensures)) (c2 .if4 .left));
+      front = rw front at (c5 .if2 .left);
+      few = rw few at (c4 .if3 .left);
       gone = passed (rw (front, few) at (c .before .all-seated2 .ensures)) (c .if5 .left);
     })
 

@@ -1,11 +1,11 @@
 -- `places::take_front` meets its contract: the front is the head of the list.
 -- Assumes nothing.
-use mathlib.Core.Path.{sym, _∙_}
+use mathlib.Core.Path.{sym}
 use native.Mathlib.Omega.{arith}
-use Rattle.places.proofs.Lists.{ring-length, queued-head}
+use borrow.Author.Needs.{needs}
 use Rattle.places.specs.Stores.{stored}
 use Rattle.places.specs.Changes.{taken}
-use borrow.Author.Needs.{needs}
+use Rattle.places.proofs.Lists.{ring-length, queued-head}
 use Rattle.places.proofs.take_front.Statement.{statement}
 use Rattle.places.proofs.take_front.Tie as tie
 
@@ -34,7 +34,10 @@ add-put : tie.Need-add-put
 add-put c = search needs
 
 sub-put : tie.Need-sub-put
-sub-put c = omega (arith, c .before .before .before .before .before .before .before .before .before .before .before .before .before .pre, c .before .before .before .before .before .before .before .before .cell2 .ensures, ring-length (c .before .before .before .before .before .before .before .before .before .before .before .before .before .args .rows .now) (c .before .before .before .before .before .before .before .before .before .before .before .before .before .args .cap))
+sub-put c =
+    let c8 = c .before .before .before .before .before .before .before .before in
+    let c13 = c8 .before .before .before .before .before in
+    omega (arith, c13 .pre, c8 .cell2 .ensures, ring-length (c13 .args .rows .now) (c13 .args .cap))
 
 put-requires-2 : tie.Need-put-requires-2
 put-requires-2 c κs = search needs
@@ -45,10 +48,16 @@ same-length c = search needs
 returns : tie.Need-returns
 unfolding taken stored
 returns c =
-    let st = c .before .before .before .before .before .before .before .before .before .before .before .before .before .before .before .before in
-    let some = st .pre .2 in (
-      rw (c .before .before .put2 .ensures, c .before .before .before .before .before .before .put .ensures, c .before .before .before .before .before .before .before .before .wrap .ensures, c .before .before .before .before .before .before .before .before .before .before .before .cell2 .ensures, c .before .before .before .before .before .before .before .before .before .before .before .before .before .cell .ensures),
-      rw (c .before .before .before .before .before .before .before .before .before .cell3 .ensures, c .before .before .before .before .before .before .before .before .before .before .before .before .before .cell .ensures) (sym (queued-head _ _ _ _ (st .pre .1) (rw (ring-length (st .args .rows .now) (st .args .cap)) at some))),
+    let c2 = c .before .before in
+    let c6 = c2 .before .before .before .before in
+    let c8 = c6 .before .before in
+    let c9 = c8 .before in
+    let c11 = c9 .before .before in
+    let c13 = c11 .before .before in
+    let c16 = c13 .before .before .before in
+    let some = c16 .pre .2 in (
+      rw (c2 .put2 .ensures, c6 .put .ensures, c8 .wrap .ensures, c11 .cell2 .ensures, c13 .cell .ensures),
+      rw (c9 .cell3 .ensures, c13 .cell .ensures) (sym (queued-head _ _ _ _ (c16 .pre .1) (rw (ring-length (c16 .args .rows .now) (c16 .args .cap)) at some))),
     )
 
 pub take-front-spec : {M : Type 1} → statement M
