@@ -8,10 +8,10 @@ cd "$(dirname "$0")/.." || exit 1
 export CARGO_TARGET_DIR="$PWD/target/second"
 programs="$CARGO_TARGET_DIR/release"
 schedule="target/bin/schedule"
-corpus_size=3000
+corpus_size=2200
 corpus_seed=1
-# No program may take longer for one file.
-most_seconds=20
+# No program may take longer for the whole corpus.
+most_seconds=120
 
 passed=0
 failed=0
@@ -35,14 +35,16 @@ second_cargo() {
 
 # Adds up what each of the cargo test programs says of itself.
 run_own_tests() {
-  local status counted
+  local status own_passed own_failed
   second_cargo test --no-fail-fast >"$work/tests.log"
   status=$?
-  grep -E '^test |^test result|^error|panicked at' "$work/tests.log"
-  counted=$(awk '/^test result:/ { ok += $4; bad += $6 } END { print ok + 0, bad + 0 }' "$work/tests.log")
-  passed=$((passed + ${counted% *}))
-  failed=$((failed + ${counted#* }))
-  if [ "$status" -ne 0 ] && [ "${counted#* }" -eq 0 ]; then
+  grep -E '^test |^error|panicked at' "$work/tests.log"
+  read -r own_passed own_failed < <(
+    awk '/^test result:/ { good += $4; bad += $6 } END { print good + 0, bad + 0 }' "$work/tests.log"
+  )
+  passed=$((passed + own_passed))
+  failed=$((failed + own_failed))
+  if [ "$status" -ne 0 ] && [ "$own_failed" -eq 0 ]; then
     cat "$work/tests.log"
     fail "the tests of the second program broke off"
   fi
@@ -64,25 +66,37 @@ check_coverage() {
   fi
 }
 
-# Every file that the two programs answer differently counts as failed. A status above 100 is a
-# panic, a signal or, as 124, the end of the time for one file, which ends the comparison.
+# Runs a program over every file of a corpus and keeps what it writes. A panic or a signal, which
+# gives a status above 100, shall not pass for an answer.
+answer_corpus() {
+  local program=$1 corpus=$2 answers=$3 file status
+  mkdir "$answers" || return
+  for file in "$corpus"/*; do
+    { "$program" <"$file" >"$answers/${file##*/}"; } 2>/dev/null
+    status=$?
+    if [ "$status" -gt 100 ]; then
+      echo "$program: exit status $status" >>"$answers/${file##*/}"
+    fi
+  done
+}
+export -f answer_corpus
+
+# Every file that the two programs answer differently counts as failed; the first ten are named.
+# A program that runs out of time leaves the rest of its answers out, so these differ too.
 compare_schedule() {
-  local file status differing=0
+  local differing
   if [ ! -x "$schedule" ]; then
     echo "$schedule is not built yet: nothing to compare"
     return
   fi
-  for file in "$work/corpus"/*; do
-    "$programs/second" <"$file" >"$work/second.out" || fail "second broke on $(basename "$file")"
-    timeout "$most_seconds" "$schedule" <"$file" >"$work/schedule.out"
-    status=$?
-    if [ "$status" -gt 100 ] || ! cmp -s "$work/second.out" "$work/schedule.out"; then
-      fail "schedule and second differ on $(basename "$file") (exit status $status)"
-      differing=$((differing + 1))
-    fi
-    [ "$status" -eq 124 ] && break
-  done
+  timeout "$most_seconds" bash -c 'answer_corpus "$@"' - "$schedule" "$work/corpus" "$work/schedule" &
+  answer_corpus "$programs/second" "$work/corpus" "$work/second"
+  wait "$!" || echo "tests: schedule did not get through the corpus"
+  diff -rq "$work/second" "$work/schedule" >"$work/differing"
+  differing=$(wc -l <"$work/differing")
+  head -n 10 "$work/differing"
   echo "schedule and second compared, $differing files differ"
+  failed=$((failed + differing))
   [ "$differing" -eq 0 ] && passed=$((passed + 1))
 }
 

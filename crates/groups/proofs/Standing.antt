@@ -6,7 +6,7 @@ use mathlib.Core.Logic.{_⊎_, _≢_, inl, inr, ⊎-elim}
 use mathlib.Core.List.{List, [], _∷_, _++_, append-assoc}
 use native.Mathlib.Omega.{arith}
 use native.Mathlib.Nat.{pow-succ', mul-left-comm}
-use lib.ListN.{length, take, drop, take-append-drop}
+use lib.ListN.{length, take, drop, take-append-drop, length-append}
 use lib.Seq.{length-take-le}
 use Rattle.lists.specs.Holds.{All}
 use Rattle.lists.proofs.Holding.{all-at}
@@ -38,6 +38,10 @@ same-end (x ∷ f) (y ∷ g) l m s t hf hg hl hm e =
 -- the bytes left, at the end of the number that stands there
 pub opened : {rest : List ℕ} {n len : ℕ} (w : Stands rest n len) → rest ≡ w .written .front ++ w .written .last ∷ drop len rest
 opened {rest} {n} {len} w = sym (take-append-drop len rest) ∙ ap (λ (l : List ℕ). l ++ drop len rest) (w .written .whole) ∙ append-assoc (w .written .front) (w .written .last ∷ []) (drop len rest)
+
+-- it has a byte
+pub stands-some : {rest : List ℕ} {n len : ℕ} → Stands rest n len → 1 ≤ len
+stands-some {rest} {n} {len} w = omega (arith, length-take-le len rest (w .inside), simp length-append at (ap length (w .written .whole)))
 
 same-bytes : {rest : List ℕ} {n m a b : ℕ} → Stands rest n a → Stands rest m b → take a rest ≡ take b rest
 same-bytes {rest} {n} {m} {a} {b} v w =

@@ -9,7 +9,7 @@ use native.Mathlib.Nat.{zero-add, add-zero}
 use lib.Dec.{leb}
 use lib.ListN.{length, set, drop}
 use lib.Seq.{sets, sets-eq}
-use borrow.Author.Tests.{le-leb, lt-leb}
+use borrow.Author.Tests.{le-leb, lt-leb, leb-true}
 use Rattle.groups.specs.declared.Wrote.{Wrote}
 use Rattle.groups.specs.declared.Wrote.the-variants.{Length, Refused}
 use Rattle.groups.specs.Buffers.{Writes}
@@ -32,3 +32,16 @@ writes-same v w = (v .buffer ∙ sym (w .buffer), v .answer ∙ sym (w .answer))
 pub sets-append : (l : List ℕ) (i : ℕ) (xs ys : List ℕ) → sets (sets l i xs) (i + length xs) ys ≡ sets l i (xs ++ ys)
 sets-append l i [] ys = ap (λ k. sets l k ys) (add-zero i)
 sets-append l i (x ∷ xs) ys = let e : i + suc (length xs) ≡ suc i + length xs = omega arith in ap (λ k. sets (sets (set l i x) (suc i) xs) k ys) e ∙ sets-append (set l i x) (suc i) xs ys
+
+-- a writer that answers a length has written the bytes
+pub record Wrote-whole (bytes before after : List ℕ) (len : ℕ) : Type 0 where
+  pub fits : length bytes ≤ length before
+  pub answer : len ≡ length bytes
+  pub buffer : after ≡ bytes ++ drop (length bytes) before
+
+pub writes-length : {bytes before after : List ℕ} {len : ℕ} → Writes bytes before after (Length len) → Wrote-whole bytes before after len
+writes-length {bytes} {before} {after} {len} w = go (leb (length bytes) (length before)) refl (w .answer) (w .buffer)
+  where
+    go : (b : Bool) → leb (length bytes) (length before) ≡ b → Length len ≡ cond b (Length (length bytes)) (Refused 1) → after ≡ cond b (bytes ++ drop (length bytes) before) before → Wrote-whole bytes before after len
+    go true e f g = record { fits = leb-true _ _ e; answer = cc; buffer = g }
+    go false e f g = absurd (let z : _≡_ {A = ℕ} 0 1 = cc in omega arith)

@@ -61,7 +61,7 @@ pub fn read(bytes: &[u8], at: usize) -> Number
 
 // How many bytes a number takes.
 pub fn length_of(n: u64) -> usize
-    ensures { λ r. ⌜ r ≡ length (groupsOf n) ⌝ }
+    ensures { λ r. ⌜ (r ≡ length (groupsOf n)) × (r ≤ 10) ⌝ }
 {
     let mut rest = n;
     let mut count = 1;

@@ -10,3 +10,4 @@ pub mod Agreeing
 pub mod Reversing
 pub mod Signs
 pub mod Writing
+pub mod Entries

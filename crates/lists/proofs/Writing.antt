@@ -1,12 +1,11 @@
 -- Laws of `written`, a text in a buffer.
 -- Assumes nothing.
-use mathlib.Core.Path.{_≡_, refl, sym, ap, _∙_}
+use mathlib.Core.Path.{_≡_, sym, _∙_}
 use mathlib.Core.List.{List, [], _∷_, _++_, append-assoc}
-use Prim.Native.Nat.{ℕ, zero, suc, _+_, _-_, _≤_, _<_}
+use Prim.Native.Nat.{ℕ, suc, _+_, _-_, _≤_, _<_}
 use native.Mathlib.Omega.{arith}
-use native.Mathlib.Nat.{add-assoc}
-use lib.ListN.{length, take, drop, set, getD, length-set, length-append, length-take, length-drop, take-append-drop}
-use lib.Seq.{length-take-le, take-at, drop-at, drop-append-add, drop-drop, drop-cons, take-set-le, drop-set-lt, getD-set-same, set-split}
+use lib.ListN.{length, take, drop, set, length-set, length-append, length-take, length-drop, take-append-drop}
+use lib.Seq.{take-at, drop-at, drop-drop, drop-cons, take-set-le, drop-set-lt, getD-set-same, set-split}
 use Rattle.lists.specs.Buffers.{written}
 
 module _ {A : Type 0} where
@@ -21,20 +20,24 @@ module _ {A : Type 0} where
   front : (out : List A) (at : ℕ) (s : List A) → at + length s ≤ length out → length (take at out ++ s) ≡ at + length s
   front out at s h = simp (length-append, length-take) (omega arith)
 
-  drop-behind : (p q : List A) (n m : ℕ) → length p ≡ n → drop (n + m) (p ++ q) ≡ drop m q
-  drop-behind p q n m e = ap (λ k. drop (k + m) (p ++ q)) (sym e) ∙ drop-append-add p q m
+  -- LAW: what stands in front, with the text; and what stands behind it
+  pub written-front : (out : List A) (at : ℕ) (s : List A) → at + length s ≤ length out → take (at + length s) (written out at s) ≡ take at out ++ s
+  unfolding written
+  written-front out at s h = rw (← append-assoc (take at out) s (drop (at + length s) out)) (take-at _ _ _ (front out at s h))
+
+  pub written-behind : (out : List A) (at : ℕ) (s : List A) → at + length s ≤ length out → drop (at + length s) (written out at s) ≡ drop (at + length s) out
+  unfolding written
+  written-behind out at s h = rw (← append-assoc (take at out) s (drop (at + length s) out)) (drop-at (take at out ++ s) _ _ (front out at s h))
 
   -- LAW: one text behind another is both as one text
   pub written-append : (out : List A) (at : ℕ) (s t : List A) → at + length s ≤ length out
       → written (written out at s) (at + length s) t ≡ written out at (s ++ t)
   unfolding written
   written-append out at s t h =
-      let whole : take at out ++ (s ++ drop (at + length s) out) ≡ (take at out ++ s) ++ drop (at + length s) out = sym (append-assoc (take at out) s _) in
-      let l = front out at s h in
-      let a : take (at + length s) (take at out ++ (s ++ drop (at + length s) out)) ≡ take at out ++ s = rw whole (take-at _ _ _ l) in
-      let b : drop (at + length s + length t) (take at out ++ (s ++ drop (at + length s) out)) ≡ drop (at + length (s ++ t)) out =
-      rw whole (drop-behind (take at out ++ s) (drop (at + length s) out) (at + length s) (length t) l ∙ rw (drop-drop, length-append, add-assoc)) in
-      rw (a, b) (simp append-assoc)
+      let e : at + length s + length t ≡ at + length (s ++ t) = rw (length-append s t) (omega arith) in
+      let b : drop (at + length s + length t) (written out at s) ≡ drop (at + length (s ++ t)) out =
+      sym (drop-drop (length t) (at + length s) (written out at s)) ∙ rw (written-behind out at s h, drop-drop, e) in
+      rw (written-front out at s h, b) (simp append-assoc)
 
   pub written-one : (out : List A) (at : ℕ) (b : A) → at < length out → set out at b ≡ written out at (b ∷ [])
   unfolding written

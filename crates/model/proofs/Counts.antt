@@ -1,25 +1,25 @@
 -- Demand 2, the counts: present, held, due and free nodes and the counter, by the history of calls.
 -- Assumes nothing.
-use mathlib.Core.Path.{_≡_, refl, ap, _∙_, subst}
+use mathlib.Core.Path.{_≡_, refl, ap, subst}
 use mathlib.Core.Bool.{Bool, true, false, not, cond, true≢false, _&&_}
 use mathlib.Core.List.{List, [], _∷_}
 use mathlib.Core.Option.{some}
 use Prim.Native.Nat.{ℕ, suc, _+_}
 use native.Mathlib.Omega.{arith}
-use lib.ListN.{length, take, drop, length-map}
+use lib.ListN.{length, length-map}
 use lib.Dec.{eqb}
 use lib.IntN.{ℤ}
 use lib.Signed.{ltZ}
-use Rattle.lists.specs.Holds.{All, Pairwise}
+use Rattle.lists.specs.Holds.{Pairwise}
 use Rattle.lists.specs.Filters.{keep, filter, first, last}
 use Rattle.lists.proofs.Holding.{all-imp}
 use Rattle.lists.proofs.Filtering.{filter-all}
 use Rattle.model.specs.Keys.{eqZ}
 use Rattle.model.specs.Plain.{Pair, Map, get, put, del}
-use Rattle.model.specs.Calls.{Call, insert, remove, code, Answer, refused, answered, accepted, number}
-use Rattle.model.specs.Model.{Place, present, pending, retired, Node, pairOf, isPresent, waits, State, Range, plain, Outcome, unseen, hold, restAt, newRange, ahead, left, heldIn, apply, next, after, history, fresh, setUp}
+use Rattle.model.specs.Calls.{Call, code, Answer, accepted, number}
+use Rattle.model.specs.Model.{Place, present, pending, retired, Node, pairOf, isPresent, waits, State, Range, plain, Outcome, unseen, hold, restAfter, newRange, ahead, left, heldIn, apply, next, after, history, fresh}
 use Rattle.model.specs.WellFormed.{isRetired, WellFormed}
-use Rattle.model.specs.Demands.{Below, times, sum, Counted, Counts}
+use Rattle.model.specs.Demands.{Below, times, sum, Counts}
 use Rattle.model.proofs.Order.{lt-ne, eqZ-eq}
 use Rattle.model.proofs.Ranges.{held-hold, held-shut, held-move, held-append}
 use Rattle.model.proofs.Effects.{Effect, refuse, ask, idle, link, depart, hand, begin, advance, finish, clear, effect, get-shown}
@@ -102,7 +102,7 @@ moves s w c o (hand i r n false e p u) =
     many (q ∷ rs) h = held-hold q rs
 moves s w c o (begin l h a b d) =
     record { here = refl; held = omega (arith, held-append (s .ranges) (newRange (suc (s .counter)) l h (s .order))); owed = refl; free = omega arith; version = omega arith }
-moves s w c o (advance v room r e f) = record { here = refl; held = omega (arith, held-move v (restAt (drop (length (take room (left r (s .order)))) (ahead r (s .order)))) (s .ranges)); owed = refl; free = omega arith; version = omega arith }
+moves s w c o (advance v room r e f) = record { here = refl; held = omega (arith, held-move v (restAfter room (ahead r (s .order)) (left r (s .order))) (s .ranges)); owed = refl; free = omega arith; version = omega arith }
 moves s w c o (finish v r rs true e f g) = record { here = refl; held = omega (arith, ap heldIn e); owed = omega arith; free = omega arith; version = omega arith }
 moves s w c o (finish v r rs false e f g) = record { here = refl; held = omega (arith, ap heldIn e, held-shut v r rs); owed = refl; free = omega arith; version = omega arith }
 moves s w c o (clear i d q e f) =

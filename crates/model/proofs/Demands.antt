@@ -6,6 +6,7 @@ use Rattle.model.proofs.Reached.{kept}
 use Rattle.model.proofs.PlainMap.{plainly}
 use Rattle.model.proofs.Counts.{counted}
 use Rattle.model.proofs.Lists.{one-queue}
+use Rattle.model.proofs.Numbers.{removes}
 
 pub demand2 : Demand2
 demand2 =
@@ -13,4 +14,5 @@ demand2 =
       plainly = λ capacity start s e cs. plainly (after s cs) (kept capacity start s e cs);
       counts = counted;
       queue = λ capacity start s e cs. one-queue (after s cs) (kept capacity start s e cs);
+      removes = removes;
     }

@@ -1,7 +1,7 @@
 -- What a call can come to, one case for each change of the state. A property of all calls is proved by these cases.
 -- Assumes nothing.
 use mathlib.Core.Path.{_≡_, refl}
-use mathlib.Core.Bool.{Bool, true, false, not, cond, false≢true, true≢false}
+use mathlib.Core.Bool.{Bool, true, false, not, cond}
 use mathlib.Core.List.{List, [], _∷_}
 use mathlib.Core.Option.{Option, none, some}
 use Prim.Native.Nat.{ℕ, zero, suc}
@@ -14,7 +14,7 @@ use Rattle.lists.specs.Filters.{filter, first, last, lacks, maybe}
 use Rattle.lists.proofs.Holding.{all-imp, every, all-tested}
 use Rattle.model.specs.Keys.{eqZ}
 use Rattle.model.specs.Plain.{Pair, get, between, ceilOf, floorOf, succOf, predOf}
-use Rattle.model.specs.Calls.{Call, lookup, insert, remove, handOver, ceil, floor, succ, pred, fast, «open», step, close, sweep, tally, code, Answer, refused, answered, swept, ranged}
+use Rattle.model.specs.Calls.{Call, lookup, insert, remove, handOver, ceil, floor, succ, pred, fast, «open», step, close, sweep, tally, code, refused, answered, swept, ranged}
 use Rattle.model.specs.Model.{Place, present, pending, retired, Node, pairOf, isPresent, is, holds, shown, Range, State, plain, dueList, Outcome, fastLimit, tickets, lastVersion, unless, foundIn, nearestIn, linking, inserting, leaving, unseen, handing, handPlace, ranging, opening, named, range, ahead, left, stepping, closing, closeFrom, freeing, sweeping, apply, refusal}
 use Rattle.model.specs.Demands.{NoneOf}
 

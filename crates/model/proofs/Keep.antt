@@ -16,7 +16,7 @@ use Rattle.lists.proofs.Holding.{all-imp, all-imp₂, all-every, all-append, al
 use Rattle.lists.proofs.Filtering.{all-filter, all-passed, pairwise-filter}
 use Rattle.model.specs.Keys.{eqZ}
 use Rattle.model.specs.Plain.{Pair, get}
-use Rattle.model.specs.Model.{Place, present, pending, retired, Node, pairOf, moved, isPresent, lasts, mayRest, shown, plain, Range, State, Rest, lists, dueList, rangeLists, heldIn, stops, restAt, ahead, left, newRange, newNode, stitch, holds, leave, is, unstitch, retire, hold, unseen, handing, opening, closing, stepping, named, rested, linking, leaving, freeing, tickets}
+use Rattle.model.specs.Model.{Place, present, pending, retired, Node, pairOf, moved, isPresent, lasts, mayRest, shown, plain, Range, State, Rest, lists, dueList, rangeLists, heldIn, stops, restAfter, ahead, left, newRange, newNode, stitch, holds, leave, is, unstitch, retire, hold, unseen, handing, opening, closing, stepping, named, rested, linking, leaving, freeing, tickets}
 use Rattle.model.specs.WellFormed.{Before, Apart, Differ, Aged, Dated, Tall, isRetired, over, At, linked, Gone, Behind, Earlier, Rested, WellFormed}
 use Rattle.model.proofs.Order.{eqb-sym}
 use Rattle.model.proofs.Nodes.{Absent, only, linked-first, all-stitch, apart-stitch, sorted-stitch, length-stitch, filter-stitch, all-change, apart-change, sorted-change, length-change, seen-change, filter-unstitch, count-unstitch, length-unstitch, stops-stitch, stops-unstitch, stops-leave, stops-retire, holds-present, linked-change, linked-unstitch, witness, count-change}
@@ -55,7 +55,7 @@ and-false : (b : Bool) → (b && false) ≡ false
 and-false true = refl
 and-false false = refl
 
-gone-rests : (v i : ℕ) (ns : List Node) → Gone ns v i → At i (λ n. mayRest v n ≡ false) ns
+pub gone-rests : (v i : ℕ) (ns : List Node) → Gone ns v i → At i (λ n. mayRest v n ≡ false) ns
 gone-rests v i ns a =
     all-imp (λ n. is i n ≡ true → lasts v (n .place) ≡ false) (λ n. is i n ≡ true → mayRest v n ≡ false)
     (λ n h e. rw (h e) (and-false (ltb (n .inserted) v))) ns a
@@ -80,13 +80,19 @@ module _ (s : State) (w : WellFormed s) where
       open-all (λ r. stops (r .version) (stitch (newNode s i k v coin) (s .order)) ≡ stops (r .version) (s .order))
       (λ r h. stops-stitch (r .version) (newNode s i k v coin) (s .order) h)
 
+  -- the node taken is linked
+  full-insert : (k v : ℤ) (coin i : ℕ) (is′ : List ℕ) → s .free ≡ i ∷ is′
+      → length (linking s k v coin i is′ .0 .order) + length (linking s k v coin i is′ .0 .free) ≡ s .capacity
+  full-insert k v coin i is′ e =
+      let le : length (s .order) + suc (length is′) ≡ s .capacity = rw e at (w .full) in
+      omega (arith, length-stitch (newNode s i k v coin) (s .order))
+
   pub well-insert : (k v : ℤ) (coin i : ℕ) (is′ : List ℕ) → s .free ≡ i ∷ is′ → get k (plain s) ≡ none → WellFormed (linking s k v coin i is′ .0)
   well-insert k v coin i is′ e f =
       let n : Node = newNode s i k v coin in
       let un : All (λ j. All (λ m. is j m ≡ false) (s .order)) (i ∷ is′) = rw e at (w .unlinked) in
       let sp : Pairwise Differ (i ∷ is′) = rw e at (w .spare) in
       let be : All (λ j. j < s .capacity) (i ∷ is′) = rw e at (w .below) in
-      let le : length (s .order) + suc (length is′) ≡ s .capacity = rw e at (w .full) in
       record {
         sorted = sorted-stitch n (s .order) refl (absent k (s .order) f) (w .sorted);
         apart = apart-stitch n (s .order) (un .0) (w .apart);
@@ -98,7 +104,7 @@ module _ (s : State) (w : WellFormed s) where
             all-imp₂ (Differ i) (λ j. All (λ m. is j m ≡ false) (s .order)) (λ j. All (λ m. is j m ≡ false) (stitch n (s .order)))
             (λ j d a. all-stitch (λ m. is j m ≡ false) n (s .order) d a) is′ (sp .0) (un .1);
         below = be .1;
-        full = omega (arith, length-stitch n (s .order), le);
+        full = full-insert k v coin i is′ e;
         queued =
             all-imp₂ (λ j. At j (λ m. isRetired m ≡ true) (s .order)) (λ j. linked j (s .order)) (λ j. At j (λ m. isRetired m ≡ true) (stitch n (s .order)))
             (λ j a l. all-stitch (λ m. is j m ≡ true → isRetired m ≡ true) n (s .order)
@@ -501,7 +507,7 @@ module _ (s : State) (w : WellFormed s) where
       }
     where
       x : Rest
-      x = restAt (drop (length (take room (left r (s .order)))) (ahead r (s .order)))
+      x = restAfter room (ahead r (s .order)) (left r (s .order))
 
   -- ---- close
 

@@ -10,6 +10,7 @@ pub mod Reached
 pub mod PlainMap
 pub mod Counts
 pub mod Lists
+pub mod Numbers
 pub mod Snapshot
 pub mod Demands
 pub mod Situated

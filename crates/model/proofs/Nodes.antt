@@ -334,14 +334,14 @@ holds-present k n h = go (n .place) h
     go (pending r) e = absurd (false≢true e)
     go (retired r) e = absurd (false≢true e)
 
-pub safe-leave : (v c : ℕ) (k : ℤ) (n : Node) → v ≤ c → holds k n ≡ true → mayRest v (moved (pending c) n) ≡ mayRest v n
-safe-leave v c k n h e = rw (holds-present k n e, le-leb v c h)
+pub rests-leave : (v c : ℕ) (k : ℤ) (n : Node) → v ≤ c → holds k n ≡ true → mayRest v (moved (pending c) n) ≡ mayRest v n
+rests-leave v c k n h e = rw (holds-present k n e, le-leb v c h)
 
 pub stops-leave : (v c : ℕ) (k : ℤ) (ns : List Node) → v ≤ c → stops v (leave c k ns) ≡ stops v ns
 stops-leave v c k ns h =
     seen-change (λ (n : Node). (n .number, pairOf n)) (mayRest v) (holds k) (pending c) ns
     (all-every (λ n. holds k n ≡ true → (mayRest v (moved (pending c) n) ≡ mayRest v n) × ((n .number, pairOf n) ≡ (n .number, pairOf n)))
-    (λ n e. (safe-leave v c k n h e, refl)) ns)
+    (λ n e. (rests-leave v c k n h e, refl)) ns)
 
 pub stops-retire : (v i r : ℕ) (ns : List Node) → At i (λ n. n .place ≡ pending r) ns → stops v (retire i r ns) ≡ stops v ns
 stops-retire v i r ns a =

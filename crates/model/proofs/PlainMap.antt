@@ -4,20 +4,20 @@ use mathlib.Core.Path.{_≡_, refl, sym, ap, _∙_}
 use mathlib.Core.Bool.{Bool, true, false, not, cond, false≢true, true≢false}
 use mathlib.Core.List.{List, [], _∷_, map}
 use mathlib.Core.Option.{Option, none, some}
-use Prim.Native.Nat.{ℕ, zero, suc, _-_, _≤_, min}
+use Prim.Native.Nat.{ℕ, zero, suc, _-_, min}
 use native.Mathlib.Omega.{arith}
 use lib.ListN.{length, length-map}
-use lib.Dec.{leb, ltb, eqb}
+use lib.Dec.{ltb}
 use lib.IntN.{ℤ}
 use lib.Signed.{ltZ}
-use Rattle.lists.specs.Holds.{All, Pairwise}
+use Rattle.lists.specs.Holds.{Pairwise}
 use Rattle.lists.specs.Filters.{keep, filter, first, empty, lacks}
 use Rattle.lists.proofs.Holding.{all-imp, all-map}
 use Rattle.lists.proofs.Filtering.{all-filter}
 use Rattle.model.specs.Keys.{eqZ}
 use Rattle.model.specs.Plain.{Pair, Map, get, put, del, between}
-use Rattle.model.specs.Calls.{Call, lookup, insert, remove, handOver, ceil, floor, succ, pred, fast, «open», step, close, sweep, tally, Answer, refused, answered, accepted, found, node, ranged, swept, counts}
-use Rattle.model.specs.Model.{Place, present, pending, retired, Node, pairOf, here, isPresent, is, shown, State, Range, plain, Outcome, fastLimit, newNode, linking, leaving, handing, opening, ahead, left, stepping, closing, freeing, ranging, sweeping, foundIn, apply, next, answer, refusal}
+use Rattle.model.specs.Calls.{Call, lookup, insert, remove, handOver, fast, «open», step, close, sweep, refused, answered, accepted, found, ranged, swept}
+use Rattle.model.specs.Model.{Place, present, pending, retired, Node, pairOf, here, isPresent, is, shown, State, plain, Outcome, fastLimit, newNode, linking, leaving, handing, opening, ahead, left, stepping, closing, freeing, ranging, sweeping, foundIn, apply, next, answer, refusal}
 use Rattle.model.specs.WellFormed.{Before, over, isRetired, At, WellFormed}
 use Rattle.model.specs.Demands.{NoneOf, Below, Plainly}
 use Rattle.model.proofs.Order.{eqZ-refl}

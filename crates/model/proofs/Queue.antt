@@ -1,8 +1,9 @@
 -- The document's lists in the one queue: what each change does to them, and that each node was removed before the version of the range whose list comes next.
 -- Assumes nothing.
-use mathlib.Core.Path.{_≡_, refl, ap, _∙_, subst}
+use mathlib.Core.Path.{_≡_, refl, ap}
 use mathlib.Core.Bool.{Bool, true, false, cond}
 use mathlib.Core.List.{List, [], _∷_, _++_}
+use mathlib.Core.Option.{some}
 use Prim.Native.Nat.{ℕ, _≤_, _<_, _+_}
 use native.Mathlib.Omega.{arith}
 use lib.ListN.{length, take, drop, length-append, length-drop}
@@ -10,10 +11,13 @@ use lib.Seq.{take-add, drop-drop, take-append-le, drop-append-le, take-all}
 use lib.Dec.{eqb}
 use borrow.Author.Tests.{leb-false, lt-leb}
 use Rattle.lists.specs.Holds.{All, Pairwise}
+use Rattle.lists.specs.Filters.{filter, first}
 use Rattle.lists.proofs.Holding.{all-imp, all-append, all-take, all-drop}
-use Rattle.model.specs.Model.{Place, present, pending, retired, Node, lasts, is, Rest, Range, State, lists, dueList, rangeLists, gain, hold, named, rested, moveOn, shut, closing, handing, heldIn}
-use Rattle.model.specs.WellFormed.{Gone, Behind, Earlier}
-use Rattle.model.specs.Demands.{listsOf, joined, closed}
+use Rattle.lists.proofs.Filtering.{first-passes, first-all}
+use Rattle.model.specs.Model.{Place, present, pending, retired, Node, lasts, is, Rest, Range, State, lists, dueList, rangeLists, gain, hold, named, moveOn, shut, closing, handing, heldIn}
+use Rattle.model.specs.WellFormed.{Apart, Gone, Behind, Earlier}
+use Rattle.model.specs.Demands.{joined, closed}
+use Rattle.model.proofs.Nodes.{only}
 use Rattle.model.proofs.Ranges.{cond-version, cond-held}
 
 abbrev pub Listed : Type 0
@@ -82,7 +86,7 @@ lists-shut v q p (r ∷ rs) = go (named v r) (lists-shut v (drop (p .held) q) r 
     go false i = ap ((p .version, take (p .held) q) ∷_) i
 
 pub lists-close : (s : State) (v : ℕ) (r : Range) (rs : List Range) → s .ranges ≡ r ∷ rs → (b : Bool) → named v r ≡ b
-    → listsOf (closing s v r rs b .0) ≡ closed v (dueList s) (rangeLists s)
+    → (dueList (closing s v r rs b .0), rangeLists (closing s v r rs b .0)) ≡ closed v (dueList s) (rangeLists s)
 lists-close s v r rs e true f = rw (e, f, take-add (s .due) (r .held) (s .queue), drop-drop (r .held) (s .due) (s .queue))
 lists-close s v r rs e false f = rw (e, f, lists-shut v (drop (s .due) (s .queue)) r rs)
 
@@ -97,6 +101,14 @@ pub gone-later : (ns : List Node) (v u i : ℕ) → v < u → Gone ns v i → Go
 gone-later ns v u i h a =
     all-imp (λ n. is i n ≡ true → lasts v (n .place) ≡ false) (λ n. is i n ≡ true → lasts u (n .place) ≡ false)
     (λ n f e. lasts-later v u (n .place) (omega arith) (f e)) ns a
+
+-- one comparison tells it: the removal version of the node of that number
+pub gone-by : (ns : List Node) (v i r : ℕ) (n : Node) → Pairwise Apart ns → first (filter (is i) ns) ≡ some n → n .place ≡ retired r → r < v → Gone ns v i
+gone-by ns v i r n a e p h = only (λ m. lasts v (m .place) ≡ false) i n ns a e (rw p (lt-leb v r h))
+
+pub gone-version : (ns : List Node) (v i r : ℕ) (n : Node) → first (filter (is i) ns) ≡ some n → n .place ≡ retired r → Gone ns v i → r < v
+gone-version ns v i r n e p g =
+    leb-false v r (rw p at (first-all (is i) (λ m. is i m ≡ true → lasts v (m .place) ≡ false) n ns e g (first-passes (is i) n ns e)))
 
 module _ (ns : List Node) where
   -- other linked nodes, where those that have the property Q stay removed

@@ -3,17 +3,17 @@
 use mathlib.Core.Path.{_≡_, refl, ap, subst}
 use mathlib.Core.Bool.{Bool, true, false, true≢false}
 use mathlib.Core.List.{List, [], _∷_}
-use mathlib.Core.Option.{Option, none, some}
+use mathlib.Core.Option.{some}
 use Prim.Native.Nat.{ℕ, zero, suc, _≤_, _<_, _+_}
 use native.Mathlib.Omega.{arith}
 use lib.ListN.{length}
 use borrow.Author.Tests.{ne-eqb}
-use Rattle.lists.specs.Holds.{All, Pairwise}
-use Rattle.lists.specs.Filters.{count}
 use Rattle.sizes.specs.declared.Size.{Size}
 use Rattle.sizes.specs.declared.Sized.{Sized}
 use Rattle.sizes.specs.Sizes.{sizeOf}
 use Rattle.sizes.proofs.Sizing.{size-rule}
+use Rattle.lists.specs.Holds.{All, Pairwise}
+use Rattle.lists.specs.Filters.{count}
 use Rattle.model.specs.Calls.{Call}
 use Rattle.model.specs.Model.{Node, is, State, Outcome, apply, next, after, fresh, freshOf, setUp}
 use Rattle.model.specs.WellFormed.{Differ, WellFormed}
@@ -66,6 +66,11 @@ none-linked : (xs : List ℕ) → All (λ (i : ℕ). All (λ (n : Node). is i n 
 none-linked [] = tt
 none-linked (x ∷ xs) = (tt, none-linked xs)
 
+-- every node is free
+fresh-below : (capacity levels start : ℕ) → All (λ (i : ℕ). i < capacity) (fresh capacity levels start .free)
+unfolding fresh
+fresh-below capacity levels start = count-below capacity _ capacity (omega arith)
+
 pub well-fresh : (capacity levels start : ℕ) → 1 ≤ levels → WellFormed (fresh capacity levels start)
 unfolding fresh
 well-fresh capacity levels start h =
@@ -77,7 +82,7 @@ well-fresh capacity levels start h =
       bounded = tt;
       spare = count-differ 0 capacity;
       unlinked = none-linked (count 0 capacity);
-      below = count-below capacity 0 capacity (omega arith);
+      below = fresh-below capacity levels start;
       full = omega (arith, count-length 0 capacity);
       queued = tt;
       single = tt;

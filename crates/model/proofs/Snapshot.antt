@@ -4,11 +4,11 @@ use mathlib.Core.Path.{_≡_, refl, sym, ap, _∙_, subst}
 use mathlib.Core.Bool.{Bool, true, false, cond, false≢true, true≢false, _&&_, _||_}
 use mathlib.Core.List.{List, [], _∷_, _++_, map, append-assoc, append-nil}
 use mathlib.Core.Option.{some}
-use Prim.Native.Nat.{ℕ, zero, suc, _≤_, _<_}
+use Prim.Native.Nat.{ℕ, zero, suc, _≤_}
 use native.Mathlib.Omega.{arith}
 use lib.ListN.{length, take, drop, take-append-drop}
-use lib.Seq.{drop-at}
-use lib.Dec.{leb, ltb, eqb}
+use lib.Seq.{drop-at, take-nil, drop-nil, drop-length}
+use lib.Dec.{leb, eqb}
 use lib.IntN.{ℤ}
 use lib.Signed.{ltZ}
 use borrow.Author.Tests.{eqb-true, eqb-false, ne-eqb, eq-eqb, le-ltb}
@@ -19,7 +19,7 @@ use Rattle.lists.proofs.Filtering.{all-filter, pairwise-filter, filter-none, fi
 use Rattle.model.specs.Keys.{within}
 use Rattle.model.specs.Plain.{Pair, between}
 use Rattle.model.specs.Calls.{Call, insert, remove, handOver, fast, «open», step, close, sweep, Answer, refused, answered, pairsIn, number, ranged, opened, stepped, swept}
-use Rattle.model.specs.Model.{Node, pairOf, isPresent, is, mayRest, Rest, Range, State, plain, Outcome, fastLimit, tickets, Stop, stops, restAt, newRange, newNode, stitch, leave, unstitch, retire, gain, hold, shut, linking, leaving, handing, opening, stepping, closing, freeing, ahead, inside, left, rested, moveOn, named, range, pairsOf, apply, next, answer, after, history}
+use Rattle.model.specs.Model.{Node, pairOf, isPresent, is, mayRest, Rest, Range, State, plain, Outcome, fastLimit, tickets, Stop, stops, restAfter, newRange, newNode, stitch, leave, unstitch, retire, gain, hold, shut, linking, leaving, handing, opening, stepping, closing, freeing, ahead, inside, left, rested, moveOn, named, range, pairsOf, apply, next, answer, after, history}
 use Rattle.model.specs.WellFormed.{Apart, Dated, Rested, WellFormed}
 use Rattle.model.specs.Demands.{Below, steps, closes, handedOut, finishedIn, Promise, Demand3}
 use Rattle.model.proofs.Nodes.{others}
@@ -155,7 +155,7 @@ module _ (s : State) (w : WellFormed s) (v : ℕ) (r : Range) (e : range v (s .r
       wr = first-all (named v) (Rested ns) r (s .ranges) e (w .rested)
 
       x : Rest
-      x = restAt (drop (length (take room (left r ns))) (ahead r ns))
+      x = restAfter room (ahead r ns) (left r ns)
 
       is-own : steps v (step v room) ≡ true
       is-own = eq-eqb v v refl
@@ -181,7 +181,7 @@ module _ (s : State) (w : WellFormed s) (v : ℕ) (r : Range) (e : range v (s .r
       (subst (λ (x : Range). Onward v r s (step v room) (stepping s v room (ahead x (s .order)) (left x (s .order)))) (sym y) (onward-own room))
   onward-step u room p f false d =
       along (step u room) (stepping s u room (ahead p (s .order)) (left p (s .order))) d
-      (r, range-other u v (restAt (drop (length (take room (left p (s .order)))) (ahead p (s .order)))) d r (s .ranges) e, same-self r) refl
+      (r, range-other u v (restAfter room (ahead p (s .order)) (left p (s .order))) d r (s .ranges) e, same-self r) refl
 
   onward-close : (u : ℕ) → eqb u v ≡ false → (p : Range) (rs : List Range) → s .ranges ≡ p ∷ rs → (b : Bool) → named u p ≡ b → Onward v r s (close u) (closing s u p rs b)
   unfolding Still
@@ -381,3 +381,12 @@ pub demand3 : Demand3
 demand3 capacity start s u before l h v e cs m =
     let t : State = after s before in
     promise t (kept capacity start s u before) l h v (apply t («open» l h)) (effect t («open» l h)) e cs m
+
+-- LAW: a finished ticket goes on answering 0 and finished, to any room above 0, until closed
+pub goes-on : (s : State) (l h : ℤ) (v : ℕ) (t : State) (cs : List Call) → Promise s l h v t cs → finishedIn v (history t cs) ≡ true
+    → (room : ℕ) → 1 ≤ room → answer (after t cs) (step v room) ≡ stepped [] true
+goes-on s l h v t cs p f room e =
+    p .further room e ∙ ap (λ (ps : List Pair). stepped (take room ps) (empty (drop room ps))) none ∙ rw (take-nil room, drop-nil room)
+  where
+    none : drop (length (handedOut v (history t cs))) (between l h (plain s)) ≡ []
+    none = rw (p .finished f) (drop-length (between l h (plain s)))

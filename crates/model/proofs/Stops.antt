@@ -16,7 +16,7 @@ use Rattle.lists.proofs.Holding.{all-imp, all-imp₂, all-every, all-drop, all-
 use Rattle.lists.proofs.Filtering.{all-passed, pairwise-filter, filter-all, filter-none, filter-same, filter-filter}
 use Rattle.model.specs.Keys.{within}
 use Rattle.model.specs.Plain.{between}
-use Rattle.model.specs.Model.{Place, present, pending, retired, Node, pairOf, here, isPresent, lasts, mayRest, shown, Rest, on, tail, Range, Stop, stops, restAt, newRange, from, ahead, inside, left, rested, pairsOf}
+use Rattle.model.specs.Model.{Place, present, pending, retired, Node, pairOf, here, isPresent, lasts, mayRest, shown, Rest, on, tail, Range, Stop, stops, restAt, restAfter, newRange, from, ahead, inside, left, rested, pairsOf}
 use Rattle.model.specs.WellFormed.{Before, Apart, Dated, Aged, Rested}
 use Rattle.model.proofs.Order.{nle-lt, lt-nle, le-trans, lt-le-trans}
 use Rattle.model.proofs.Nodes.{before-le}
@@ -102,7 +102,7 @@ cut l h (suc room) (x ∷ xs) s a = go (leZ (x .1 .0) h) refl (cut l h room xs (
 
 module _ (r : Range) (room : ℕ) (ns : List Node) (s : Pairwise Before ns) (a : Pairwise Apart ns) (w : Rested ns r) where
   abbrev next : Range
-  next = rested (restAt (drop (length (take room (left r ns))) (ahead r ns))) r
+  next = rested (restAfter room (ahead r ns) (left r ns)) r
 
   pub ahead-step : ahead next ns ≡ drop (length (take room (left r ns))) (ahead r ns)
   ahead-step = from-drop (length (take room (left r ns))) (r .rest) (stops (r .version) ns) (stops-apart (r .version) ns a)

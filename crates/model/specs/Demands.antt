@@ -3,18 +3,18 @@
 use mathlib.Core.Path.{_≡_}
 use mathlib.Core.Bool.{Bool, true, false, cond, _&&_, _||_}
 use mathlib.Core.List.{List, [], _∷_, _++_, map}
-use mathlib.Core.Option.{Option, none, some}
-use Prim.Native.Nat.{ℕ, _≤_, _+_, _-_, min}
-use lib.ListN.{length, take, drop}
+use mathlib.Core.Option.{none, some}
+use Prim.Native.Nat.{ℕ, suc, _≤_, _+_, _-_, min}
+use lib.ListN.{length, take, drop, getD}
 use lib.IntN.{ℤ}
 use lib.Signed.{ltZ}
-use lib.Dec.{eqb}
+use lib.Dec.{ltb, eqb}
 use Rattle.lists.specs.Holds.{All, Pairwise}
 use Rattle.lists.specs.Filters.{empty, filter}
-use Rattle.model.specs.Keys.{within}
+use Rattle.model.specs.Keys.{eqZ, within}
 use Rattle.model.specs.Plain.{Pair, get, put, del, ceilOf, floorOf, succOf, predOf, between}
-use Rattle.model.specs.Calls.{Call, lookup, insert, remove, handOver, ceil, floor, succ, pred, fast, «open», step, close, sweep, tally, code, names, Answer, refused, accepted, pairsIn, number, node, handed, ranged, opened, stepped, madeDue, swept, counts}
-use Rattle.model.specs.Model.{Node, pairOf, isPresent, is, State, plain, dueList, rangeLists, fastLimit, foundIn, nearestIn, heldIn, apply, next, answer, after, history, refusal, stops, inside, pairsOf, setUp}
+use Rattle.model.specs.Calls.{Call, lookup, insert, remove, handOver, ceil, floor, succ, pred, fast, «open», step, close, sweep, tally, written, code, names, Answer, refused, accepted, pairsIn, number, node, handed, ranged, opened, stepped, madeDue, swept, counts}
+use Rattle.model.specs.Model.{Node, pairOf, isPresent, waits, is, Range, State, plain, dueList, rangeLists, fastLimit, foundIn, nearestIn, heldIn, apply, next, answer, after, history, refusal, stops, inside, pairsOf, setUp}
 use Rattle.model.specs.WellFormed.{WellFormed}
 
 -- P holds of every state that calls can produce from set-up
@@ -83,10 +83,14 @@ Counts =
     (capacity start : ℕ) (s : State) → setUp capacity start ≡ some s
     → (calls : List Call) → Counted capacity start (after s calls) (history s calls)
 
--- ---- Demand 2: the document's lists, in the one queue
+-- ---- Demand 2: the document's lists, in the one queue; node numbers and versions
 
-abbrev pub listsOf : State → List ℕ × List (ℕ × List ℕ)
-listsOf s = (dueList s, rangeLists s)
+-- the free nodes, the next to be used first; the nodes due; each open range's version and list, oldest first
+abbrev pub Lists : Type 0
+Lists = List ℕ × List ℕ × List (ℕ × List ℕ)
+
+abbrev pub listsOf : State → Lists
+listsOf s = (s .free, dueList s, rangeLists s)
 
 -- a node at the end of the latest range's list
 abbrev pub joined : ℕ → List (ℕ × List ℕ) → List (ℕ × List ℕ)
@@ -101,20 +105,45 @@ closed v xs (l ∷ ls) =
     cond (eqb (l .0) v) (xs ++ l .1, ls) (xs, (l .0, closed v (l .1) ls .0) ∷ closed v (l .1) ls .1)
 
 pub record OneQueue (s : State) : Type 0 where
-  pub hold : (i : ℕ) → answer s (handOver i) ≡ handed 0 → listsOf (next s (handOver i)) ≡ (dueList s, joined i (rangeLists s))
-  pub free : (i : ℕ) → answer s (handOver i) ≡ handed 1 → listsOf (next s (handOver i)) ≡ listsOf s
-  pub begin : (l h : ℤ) (v : ℕ) → answer s («open» l h) ≡ opened v → listsOf (next s («open» l h)) ≡ (dueList s, rangeLists s ++ ((v, []) ∷ []))
-  pub finish : (v n : ℕ) → answer s (close v) ≡ madeDue n → listsOf (next s (close v)) ≡ closed v (dueList s) (rangeLists s)
-  pub clear : listsOf (next s sweep) ≡ (drop 1 (dueList s), rangeLists s)
-  pub freed : next s sweep .free ≡ take 1 (dueList s) ++ s .free
-  pub others : (c : Call) → NoneOf (3 ∷ 9 ∷ 11 ∷ 12 ∷ []) c → listsOf (next s c) ≡ listsOf s
-  -- a close answers by how many the nodes due grew
-  pub made : (v n : ℕ) → answer s (close v) ≡ madeDue n → length (dueList (next s (close v))) ≡ length (dueList s) + n
+  -- insert: the node was the first free one
+  pub takes : (k v : ℤ) (coin i : ℕ) → answer s (insert k v coin) ≡ node i → listsOf (next s (insert k v coin)) ≡ (drop 1 (s .free), dueList s, rangeLists s)
+  pub first : (k v : ℤ) (coin i : ℕ) → answer s (insert k v coin) ≡ node i → take 1 (s .free) ≡ i ∷ []
+  -- hand over: a pending node is free, and the next to be used, if no open range is later than its insertion; else it joins the latest range's list at its end
+  pub rule :
+      (i : ℕ) (n : Node) → filter (is i) (s .order) ≡ n ∷ [] → waits (n .place) ≡ true
+      → answer s (handOver i) ≡ handed (cond (empty (filter (λ (r : Range). ltb (n .inserted) (r .version)) (s .ranges))) 1 0)
+  pub joins : (i : ℕ) → answer s (handOver i) ≡ handed 0 → listsOf (next s (handOver i)) ≡ (s .free, dueList s, joined i (rangeLists s))
+  pub frees : (i : ℕ) → answer s (handOver i) ≡ handed 1 → listsOf (next s (handOver i)) ≡ (i ∷ s .free, dueList s, rangeLists s)
+  -- open: one more version, with an empty list
+  pub opens : (l h : ℤ) (v : ℕ) → answer s («open» l h) ≡ opened v → listsOf (next s («open» l h)) ≡ (s .free, dueList s, rangeLists s ++ ((v, []) ∷ []))
+  pub version : (l h : ℤ) (v : ℕ) → answer s («open» l h) ≡ opened v → v ≡ suc (s .counter)
+  -- close: its list moves, and it answers by how many the nodes due grow
+  pub closes : (v n : ℕ) → answer s (close v) ≡ madeDue n → listsOf (next s (close v)) ≡ (s .free, closed v (dueList s) (rangeLists s) .0, closed v (dueList s) (rangeLists s) .1)
+  pub grows : (v n : ℕ) → answer s (close v) ≡ madeDue n → length (dueList (next s (close v))) ≡ length (dueList s) + n
+  -- sweep: the first node due, if any, is free and the next to be used
+  pub sweeps : listsOf (next s sweep) ≡ (take 1 (dueList s) ++ s .free, drop 1 (dueList s), rangeLists s)
+  pub others : (c : Call) → NoneOf (1 ∷ 3 ∷ 9 ∷ 11 ∷ 12 ∷ []) c → listsOf (next s c) ≡ listsOf s
+
+-- an insertion of that key
+abbrev pub inserts : ℤ → Call → Bool
+inserts k c = eqb (code c) 1 && eqZ (getD (written c .1) 0 k) k
+
+-- the node that the last accepted insertion of a key answered, i where there was none
+abbrev pub insertedAt : ℤ → ℕ → List (Call × Answer) → ℕ
+insertedAt k i [] = i
+insertedAt k i (h ∷ hs) = insertedAt k (cond (inserts k (h .0) && accepted (h .1)) (number 0 (h .1)) i) hs
+
+-- a removal answers that node
+abbrev pub Removes : Type 0
+Removes =
+    (capacity start : ℕ) (s : State) → setUp capacity start ≡ some s
+    → (calls : List Call) (k : ℤ) (i : ℕ) → answer (after s calls) (remove k) ≡ node i → insertedAt k 0 (history s calls) ≡ i
 
 pub record Demand2 : Type 0 where
   pub plainly : Always Plainly
   pub counts : Counts
   pub queue : Always OneQueue
+  pub removes : Removes
 
 -- ---- Demand 3
 

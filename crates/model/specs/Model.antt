@@ -13,7 +13,7 @@ use Rattle.sizes.specs.declared.Sized.{Sized}
 use Rattle.sizes.specs.Sizes.{sizeOf}
 use Rattle.model.specs.Keys.{eqZ, within}
 use Rattle.model.specs.Plain.{Pair, Map, get, ceilOf, floorOf, succOf, predOf, between}
-use Rattle.model.specs.Calls.{Call, lookup, insert, remove, handOver, ceil, floor, succ, pred, fast, «open», step, close, sweep, tally, Answer, refused, found, node, handed, nearest, ranged, opened, stepped, madeDue, swept, counts}
+use Rattle.model.specs.Calls.{Call, lookup, insert, remove, handOver, ceil, floor, succ, pred, fast, «open», step, close, sweep, tally, Answer, refused, told, found, node, handed, nearest, ranged, opened, stepped, madeDue, swept, counts}
 
 -- ---- nodes
 
@@ -237,6 +237,7 @@ abbrev pub handing : State → ℕ → ℕ → Bool → Outcome
 handing s i r true = (withOrder (unstitch i (s .order)) (withFree (i ∷ s .free) s), handed 1)
 handing s i r false = (withOrder (retire i r (s .order)) (withQueue (s .queue ++ (i ∷ [])) (withRanges (hold (s .ranges)) s)), handed 0)
 
+-- node i, inserted at version t, by its place
 unfoldable pub handPlace : State → ℕ → ℕ → Place → Outcome
 handPlace s i t present = (s, refused 12)
 handPlace s i t (retired r) = (s, refused 12)
@@ -308,10 +309,13 @@ rested x r = record { version = r .version; low = r .low; high = r .high; rest =
 abbrev pub moveOn : ℕ → Rest → List Range → List Range
 moveOn v x rs = map (λ (r : Range). cond (named v r) (rested x r) r) rs
 
--- xs are ahead of the range, and of these it needs the others: the first of them are handed out, and it rests behind them
+-- xs are ahead of a range, and of these it needs some: behind the first of those, as many as there is room for
+abbrev pub restAfter : ℕ → List Stop → List Stop → Rest
+restAfter room xs needed = restAt (drop (length (take room needed)) xs)
+
 abbrev pub stepping : State → ℕ → ℕ → List Stop → List Stop → Outcome
 stepping s v room xs needed = (
-  withRanges (moveOn v (restAt (drop (length (take room needed)) xs)) (s .ranges)) s,
+  withRanges (moveOn v (restAfter room xs needed) (s .ranges)) s,
   stepped (pairsOf (take room needed)) (empty (drop room needed)),
 )
 
@@ -386,6 +390,9 @@ unfoldable pub history : State → List Call → List (Call × Answer)
 history s [] = []
 history s (c ∷ cs) = (c, answer s c) ∷ history (next s c) cs
 
+abbrev pub run : State → List Call → State × List Answer
+run s cs = (after s cs, map (λ (h : Call × Answer). h .1) (history s cs))
+
 -- ---- the refusals
 
 -- the tests of each call, in order, with their numbers
@@ -434,6 +441,9 @@ abbrev pub freshOf : ℕ → Sized → Option State
 freshOf start (Sized.Of s) = some (fresh (s .capacity) (s .levels) start)
 freshOf start Sized.Nothing = none
 
--- refused with 2 where the table has no such capacity
+-- of a capacity that the table has; else it is refused with 2
 unfoldable pub setUp : ℕ → ℕ → Option State
 setUp capacity start = freshOf start (sizeOf capacity)
+
+abbrev pub setUpAnswer : Option State → Answer
+setUpAnswer o = maybe (refused 2) (λ (s : State). told []) o

@@ -51,7 +51,7 @@ madePresent rows cap n = marked rows cap n 1 (presentCount rows cap + 1)
 abbrev pub madePending : List ℕ → ℕ → ℕ → List ℕ
 madePending rows cap n = marked rows cap n 2 (presentCount rows cap - 1)
 
--- the nodes below k are free, those of lower number nearer to the top of a stack of cap
+-- the nodes below n are free: i has the seat cap - 1 - i of the stack, so that 0 is on top of a full one
 unfoldable pub clearedNodes : List ℕ → ℕ → ℕ → List ℕ
 clearedNodes rows cap zero = rows
 clearedNodes rows cap (suc n) =

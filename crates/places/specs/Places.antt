@@ -18,16 +18,19 @@ pub record Sized (rows : List ℕ) (cap : ℕ) : Type 0 where
   pub size : length rows ≡ (cap + 2) * 32
   pub small : cap ≤ 4096
 
--- the counts
+-- how many nodes are free
 abbrev pub freeCount : List ℕ → ℕ → ℕ
 freeCount rows cap = frees rows cap
 
+-- the row in which the ring begins
 abbrev pub ringFront : List ℕ → ℕ → ℕ
 ringFront rows cap = rings rows cap
 
+-- how many nodes are in the ring
 abbrev pub ringCount : List ℕ → ℕ → ℕ
 ringCount rows cap = rings rows (cap + 1)
 
+-- how many nodes are counted as present
 abbrev pub presentCount : List ℕ → ℕ → ℕ
 presentCount rows cap = frees rows (cap + 1)
 
@@ -56,9 +59,11 @@ freeOf rows cap = stacked (frees rows) (freeCount rows cap)
 abbrev pub ringOf : List ℕ → ℕ → List ℕ
 ringOf rows cap = queued cap (rings rows) (ringFront rows cap) (ringCount rows cap)
 
+-- the node freed last, which is used first
 abbrev pub firstFree : List ℕ → ℕ → ℕ
 firstFree rows cap = headOr (freeOf rows cap) 0
 
+-- the node retired first
 abbrev pub firstRetired : List ℕ → ℕ → ℕ
 firstRetired rows cap = headOr (ringOf rows cap) 0
 

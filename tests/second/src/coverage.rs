@@ -127,7 +127,7 @@ const CASES: [(&str, Test); 24] = [
 
 /// Something that the program may come to.
 #[derive(Clone, Copy, Debug, PartialEq, Eq, PartialOrd, Ord)]
-pub enum Item {
+enum Item {
     SetUp { result: u8 },
     Code { code: u8 },
     Result { code: u8, result: u8 },
@@ -183,8 +183,8 @@ pub struct Coverage {
 }
 
 impl Coverage {
-    #[allow(clippy::new_without_default)]
-    pub fn new() -> Coverage {
+    /// The coverage of no file.
+    pub fn empty() -> Coverage {
         let possible = possible_items().into_iter().map(|item| (item, 0)).collect();
         Coverage { possible, impossible: BTreeMap::new() }
     }
@@ -229,7 +229,7 @@ impl Coverage {
     }
 
     /// The items that no file reached.
-    pub fn unreached(&self) -> Vec<Item> {
+    fn unreached(&self) -> Vec<Item> {
         let unreached = self.possible.iter().filter(|&(_, &count)| count == 0);
         unreached.map(|(&item, _)| item).collect()
     }

@@ -18,7 +18,7 @@ use support::{bytes_of, output_of};
 #[test]
 fn a_corpus_reaches_everything_the_program_can_give() {
     for seed in [1, 2, 12_345] {
-        let mut coverage = Coverage::new();
+        let mut coverage = Coverage::empty();
         for (kind, file_seed) in corpus(1000, seed) {
             coverage.add_file((kind.file)(file_seed).as_slice()).expect("memory does not fail");
         }
@@ -84,12 +84,12 @@ fn input_in_pieces_gives_the_same_output() {
 
 #[test]
 fn a_long_file_has_as_many_transactions_as_asked_for() {
-    let mut with_none = Vec::new();
+    let mut with_one = Vec::new();
     let mut with_many = Vec::new();
-    write_long(8, 1, &mut with_none).expect("memory does not fail");
+    write_long(8, 1, &mut with_one).expect("memory does not fail");
     write_long(8, 50_001, &mut with_many).expect("memory does not fail");
     let lines = |file: &[u8]| output_of(file).lines().count();
-    assert_eq!(lines(&with_many) - lines(&with_none), 50_000);
+    assert_eq!(lines(&with_many) - lines(&with_one), 50_000);
 }
 
 #[test]

@@ -29,7 +29,7 @@ loop-again : tie.Need-loop-again Inv-loop μ-loop
 loop-again c = (omega (arith, length-step _ (c .loop-test .taken)), c .before .loop .inv .1)
 
 returns : tie.Need-returns Inv-loop μ-loop
-returns c = omega (arith, length-low _ (c .loop-test .left))
+returns c = omega (arith, length-low _ (c .loop-test .left), groups-short _ (c .before .loop .inv .1))
 
 pub length-of-spec : {M : Type 1} → statement M
 length-of-spec =

@@ -25,7 +25,7 @@ fn cover(folders: &[String]) -> Result<bool, Box<dyn Error>> {
     if folders.is_empty() {
         return Err("usage: coverage DIR...".into());
     }
-    let mut coverage = Coverage::new();
+    let mut coverage = Coverage::empty();
     for folder in folders {
         for entry in fs::read_dir(folder)? {
             coverage.add_file(File::open(entry?.path())?)?;

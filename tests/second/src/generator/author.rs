@@ -106,7 +106,7 @@ impl Author {
         }
     }
 
-    pub fn insert(&mut self, aimed: bool) -> Transaction {
+    fn insert(&mut self, aimed: bool) -> Transaction {
         let mut key = self.key();
         for _ in 0..8 {
             if !aimed || self.map.lookup(key).is_err() {
@@ -117,7 +117,7 @@ impl Author {
         Transaction::Insert { key, value: self.value(), coin: self.coin() }
     }
 
-    pub fn value(&mut self) -> i64 {
+    fn value(&mut self) -> i64 {
         let bits = self.random.bits_of_any_length();
         self.random.choose(&[0, 1, -1, i64::MIN, i64::MAX, bits as i64, -((bits >> 1) as i64)])
     }
@@ -158,7 +158,7 @@ impl Author {
     }
 
     /// Bounds around keys of the file; now and then l = r, or every key. Not aimed, l > r.
-    pub fn bounds(&mut self, aimed: bool) -> (i64, i64) {
+    fn bounds(&mut self, aimed: bool) -> (i64, i64) {
         let (one, other) = (self.key_nearby(), self.key_nearby());
         let (low, high) = (one.min(other), one.max(other));
         if !aimed && low < high {

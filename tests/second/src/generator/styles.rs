@@ -7,7 +7,7 @@ use crate::random::Random;
 /// How a file is drawn.
 pub struct Style {
     capacities: &'static [u32],
-    /// The first version is so far below the last one, 2^32 − 1; None for a low one.
+    /// The start version is at most so far below the last version; None for one farther away.
     versions_left: Option<u64>,
     keys: fn(&mut Random, u32) -> Vec<i64>,
     /// So many percent of the capacity are inserted at the beginning.
@@ -20,11 +20,9 @@ pub struct Style {
     wrong_percent: u64,
 }
 
-const PROGRAM_CAPACITIES: &[u32] = &[64, 128, 256];
-
 /// A bit of everything; the other styles are told by how they differ from it.
 pub const MIXED: Style = Style {
-    capacities: PROGRAM_CAPACITIES,
+    capacities: &[64, 128, 256],
     versions_left: None,
     keys: close_together,
     filled_percent: 10,
@@ -163,7 +161,7 @@ fn of_one_bucket(random: &mut Random, capacity: u32) -> Vec<i64> {
     near.chain(far).map(|turn| (bucket + turn * buckets) as i64).collect()
 }
 
-/// Both ends, zero, and each power of two with its neighbours, of both signs.
+/// Both ends, zero, and some powers of two of both signs with their neighbours.
 fn extreme(random: &mut Random, _capacity: u32) -> Vec<i64> {
     let mut keys = vec![i64::MIN, i64::MIN + 1, -1, 0, 1, i64::MAX - 1, i64::MAX];
     for _ in 0..8 {

@@ -1,0 +1,5 @@
+pub mod Digits
+pub mod Putting
+pub mod Filling
+pub mod Lining
+mod Examples

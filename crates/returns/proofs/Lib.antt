@@ -1,0 +1,4 @@
+pub mod HandCases
+pub mod Freeing
+pub mod HandLaw
+pub mod SweepLaw

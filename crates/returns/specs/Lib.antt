@@ -1,0 +1,3 @@
+pub mod Freeing
+pub mod HandOver
+pub mod Sweep

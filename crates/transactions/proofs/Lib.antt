@@ -1,0 +1,9 @@
+pub mod Sequencing
+pub mod Comparing
+pub mod Running
+pub mod Operating
+pub mod Joining
+pub mod Calling
+pub mod Trips
+pub mod Lengths
+pub mod Listing

@@ -1,0 +1,3 @@
+pub mod Sequences
+pub mod Calls
+pub mod Readings
