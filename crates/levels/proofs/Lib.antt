@@ -3,5 +3,9 @@ pub mod Joining
 pub mod Orders
 pub mod Nearing
 pub mod Searching
+pub mod Placing
 pub mod Splicing
 pub mod Stitching
+pub mod Testing
+pub mod Climbing
+pub mod Never

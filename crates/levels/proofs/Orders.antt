@@ -1,26 +1,25 @@
 -- The order that a memory holds: it is one, it is read in both directions, and it stays where the links and the heights of its nodes stay.
 -- Assumes nothing.
 use mathlib.Core.Path.{_≡_, refl, sym, ap, _∙_}
-use mathlib.Core.Logic.{_≢_, _⊎_, ⊎-elim}
-use mathlib.Core.Bool.{Bool, true, false}
-use mathlib.Core.List.{List, [], _∷_, _++_, append-assoc, reverse, reverse-append}
+use mathlib.Core.Bool.{true}
+use mathlib.Core.List.{List, [], _∷_, _++_, append-assoc, reverse}
 use Prim.Native.Nat.{ℕ, zero, suc, _+_, _-_, _*_, _≤_, _<_}
 use native.Mathlib.Omega.{arith}
 use native.Mathlib.Nat.{not-suc-le-zero}
 use lib.ListN.{length, length-append}
 use lib.Dec.{ltb}
 use borrow.Author.Tests.{lt-ltb, le-ltb}
-use Rattle.lists.specs.Holds.{All, Pairwise}
-use Rattle.lists.specs.Filters.{filter, lastOr, headOr}
-use Rattle.lists.specs.Members.{Differ}
-use Rattle.lists.proofs.Holding.{all-imp, all-imp₂, all-left, all-right, all-append, all-head, all-last}
-use Rattle.lists.proofs.Filtering.{filter-all, filter-same, all-filter, filter-append}
+use Rattle.lists.specs.Holds.{All}
+use Rattle.lists.specs.Filters.{lastOr, headOr}
+use Rattle.lists.proofs.Holding.{all-imp, all-imp₂, all-right}
+use Rattle.lists.proofs.Filtering.{filter-all, filter-same, last-append}
 use Rattle.lists.proofs.Splits.{pigeon}
 use Rattle.lists.proofs.Reversing.{length-reverse, all-reverse}
-use Rattle.rows.specs.Rows.{links, heights}
+use Rattle.rows.specs.Rows.{put, linkColumn, links, heights}
+use Rattle.rows.proofs.Columns.{column-other}
 use Rattle.levels.specs.Levels.{Run, level, Links, walk, sentinel, onward, orderIn, orderOf, Linked}
 use Rattle.levels.specs.Nearest.{Lowest}
-use Rattle.levels.proofs.Runs.{run-right, run-next, run-after, run-turn}
+use Rattle.levels.proofs.Runs.{run-right, run-after, run-turn}
 
 -- a walk along a run meets its nodes
 pub walk-run : (nx pv : ℕ → ℕ) (cap f a z : ℕ) (xs : List ℕ) → length xs ≤ f → All (λ m. m < cap) xs → cap ≤ z → Run nx pv a (xs ++ z ∷ []) → walk nx cap f (nx a) ≡ xs
@@ -73,6 +72,10 @@ module _ (rows rows′ : List ℕ) (cap : ℕ) (same : (l d : ℕ) → l < 12 �
       (links-same (λ l. links rows l 0) (λ l. links rows l 1) (heights rows) cap levels (orderOf rows cap) (λ l. links rows′ l 0) (λ l. links rows′ l 1) (heights rows′)
       (λ l i. same l 0 i (omega arith)) (λ l i. same l 1 i (omega arith)) g s)
 
+-- LAW: a store to a field leaves every link as it was
+pub links-put : (rows : List ℕ) (n f v : ℕ) → f < 8 → (l d : ℕ) → l < 12 → d ≤ 1 → links (put rows n f v) l d ≡ links rows l d
+links-put rows n f v h l d i u = column-other rows n f v (linkColumn l d) (omega arith) (omega arith) (omega arith)
+
 -- a memory that holds the levels of an order holds that order
 pub linked-of : (rows : List ℕ) (cap levels : ℕ) (o : List ℕ) → 0 < levels → Links (λ l. links rows l 0) (λ l. links rows l 1) (heights rows) cap levels o → (orderOf rows cap ≡ o) × Linked rows cap levels
 linked-of rows cap levels o h s =
@@ -106,7 +109,7 @@ turned-all P (suc d) xs a = all-reverse P xs a
 
 -- a level that is linked in both directions, from one sentinel to the other
 module _ (rows : List ℕ) (cap l : ℕ) (xs : List ℕ) (r : Run (links rows l 0) (links rows l 1) cap (xs ++ (cap + 1) ∷ [])) (d : ℕ) (u : d ≤ 1) where
-  run-in : Run (links rows l d) (links rows l (1 - d)) (sentinel cap d) (turned d xs ++ sentinel cap (1 - d) ∷ [])
+  pub run-in : Run (links rows l d) (links rows l (1 - d)) (sentinel cap d) (turned d xs ++ sentinel cap (1 - d) ∷ [])
   run-in = go d u
     where
       go : (e : ℕ) → e ≤ 1 → Run (links rows l e) (links rows l (1 - e)) (sentinel cap e) (turned e xs ++ sentinel cap (1 - e) ∷ [])
@@ -121,10 +124,14 @@ module _ (rows : List ℕ) (cap l : ℕ) (xs : List ℕ) (r : Run (links rows l 
   pub link-run : (A B : List ℕ) → turned d xs ≡ A ++ B → links rows l d (lastOr (sentinel cap d) A) ≡ headOr B (sentinel cap (1 - d))
   link-run A B e = run-after (links rows l d) (links rows l (1 - d)) (sentinel cap d) A B (sentinel cap (1 - d)) (run-part A B e)
 
--- LAW: the neighbour of a place on the level l, in the direction d
-pub link-level : (rows : List ℕ) (cap levels : ℕ) → Linked rows cap levels → (l d : ℕ) → l < levels → d ≤ 1 → (A B : List ℕ)
-    → turned d (level (heights rows) l (orderOf rows cap)) ≡ A ++ B → links rows l d (lastOr (sentinel cap d) A) ≡ headOr B (sentinel cap (1 - d))
-link-level rows cap levels s l d i u = link-run rows cap l (level (heights rows) l (orderOf rows cap)) (s .chains l i) d u
+  pub link-at : (n : ℕ) (A B : List ℕ) → turned d xs ≡ A ++ n ∷ B → links rows l d n ≡ headOr B (sentinel cap (1 - d))
+  link-at n A B e =
+      ap (links rows l d) (sym (last-append (sentinel cap d) A (n ∷ []))) ∙ link-run (A ++ n ∷ []) B (e ∙ sym (append-assoc A (n ∷ []) B))
+
+-- LAW: the neighbour of n on the level l, in the direction d
+pub neighbour : (rows : List ℕ) (cap levels : ℕ) → Linked rows cap levels → (l d n : ℕ) → l < levels → d ≤ 1 → (A B : List ℕ)
+    → turned d (level (heights rows) l (orderOf rows cap)) ≡ A ++ n ∷ B → links rows l d n ≡ headOr B (sentinel cap (1 - d))
+neighbour rows cap levels s l d n i u = link-at rows cap l (level (heights rows) l (orderOf rows cap)) (s .chains l i) d u n
 
 module _ (rows : List ℕ) (cap : ℕ) (s : Lowest rows cap) where
   turned-length : (d : ℕ) → length (turned d (orderOf rows cap)) ≤ cap

@@ -2,9 +2,9 @@
 -- Assumes nothing.
 use mathlib.Core.Path.{_≡_, refl, sym, ap, ap₂, _∙_}
 use mathlib.Core.Logic.{_≢_, _⊎_, ⊎-elim}
-use mathlib.Core.Bool.{Bool, true, false}
+use mathlib.Core.Bool.{true, false}
 use mathlib.Core.List.{List, [], _∷_, _++_, append-assoc, append-nil, map}
-use Prim.Native.Nat.{ℕ, zero, suc, _≤_, _<_, _+_, _-_, _*_}
+use Prim.Native.Nat.{ℕ, zero, suc, _≤_, _<_, _+_, _-_}
 use native.Mathlib.Omega.{arith}
 use native.Mathlib.Nat.{eq-or-lt-of-le}
 use native.Mathlib.Decide.{decLe}
@@ -12,14 +12,14 @@ use lib.ListN.{length, getD, set, length-append, length-set}
 use lib.Seq.{getD-set-same, getD-set-other, ext-getD}
 use lib.Dec.{ltb, leb}
 use borrow.Author.Tests.{lt-ltb, le-ltb, le-leb, lt-leb, ltb-true, leb-true}
-use Rattle.lists.specs.Holds.{All, Pairwise}
-use Rattle.lists.specs.Filters.{filter, lastOr, headOr, count}
-use Rattle.lists.proofs.Holding.{all-imp, all-append, all-left, all-right, all-last, all-head, pairwise-before, pairwise-right}
-use Rattle.lists.proofs.Filtering.{First, first-split, all-filter, all-passed, pairwise-filter, filter-append, filter-yes, filter-all, filter-none, last-append}
+use Rattle.lists.specs.Holds.{All}
+use Rattle.lists.specs.Filters.{lastOr, headOr, count}
+use Rattle.lists.proofs.Holding.{all-imp, all-append, all-left, all-right, pairwise-before, pairwise-right}
+use Rattle.lists.proofs.Filtering.{first-split, all-filter, all-passed, pairwise-filter, filter-append, filter-yes, filter-all, filter-none, last-append}
 use Rattle.rows.specs.Rows.{links, heights}
 use Rattle.levels.specs.declared.Pair.{Pair}
 use Rattle.levels.specs.declared.Found.{Found}
-use Rattle.levels.specs.Levels.{Run, level, onward, orderOf, Row}
+use Rattle.levels.specs.Levels.{Run, level, onward, orderOf}
 use Rattle.levels.specs.Stitch.{pair, pairAt}
 use Rattle.levels.specs.Search.{upTo, above, around, pairOn, searched, Rising, Searchable}
 use Rattle.levels.specs.Nearest.{Lowest}

@@ -1,32 +1,32 @@
 -- The laws that callers cite: the order and the levels of the memory after a node was stitched in, after one was unstitched, and after all were cleared.
 -- Assumes nothing.
 use mathlib.Core.Path.{_≡_, refl, sym, ap, ap₂, _∙_}
-use mathlib.Core.Logic.{_≢_, ⊎-elim}
-use mathlib.Core.Bool.{Bool, true, false, not}
-use mathlib.Core.List.{List, [], _∷_, _++_, append-assoc}
-use Prim.Native.Nat.{ℕ, zero, suc, _≤_, _<_, _+_, _-_, _*_}
+use mathlib.Core.Logic.{_≢_}
+use mathlib.Core.Bool.{not}
+use mathlib.Core.List.{List, [], _∷_, _++_}
+use Prim.Native.Nat.{ℕ, _≤_, _<_, _+_, _-_, _*_}
 use native.Mathlib.Omega.{arith}
 use lib.ListN.{length, getD, set, length-set}
 use lib.Seq.{getD-set-same, getD-set-other}
 use lib.Dec.{ltb, eqb}
 use borrow.Author.Tests.{lt-ltb, eq-eqb}
 use Rattle.lists.specs.Holds.{All, Pairwise}
-use Rattle.lists.specs.Filters.{filter, lastOr, headOr, without}
-use Rattle.lists.specs.Members.{In, Differ, Split}
+use Rattle.lists.specs.Filters.{lastOr, headOr, without}
+use Rattle.lists.specs.Members.{In, Differ}
 use Rattle.lists.proofs.Holding.{all-imp, all-imp₂, all-every, all-left, all-right, all-last, all-head, pairwise-insert, pairwise-before, pairwise-right}
-use Rattle.lists.proofs.Filtering.{all-filter, pairwise-filter, filter-comm, filter-same, filter-append, filter-no, last-append}
+use Rattle.lists.proofs.Filtering.{all-filter, pairwise-filter, filter-comm, filter-same, filter-append, filter-no}
 use Rattle.lists.proofs.Splits.{all-in, in-split, split-in, split-filter, without-off}
 use Rattle.lists.proofs.Agreeing.{pairwise-imp}
-use Rattle.rows.specs.Rows.{column, upd, links, heights}
+use Rattle.rows.specs.Rows.{upd, links, heights}
 use Rattle.rows.proofs.Columns.{upd-same, upd-other}
 use Rattle.levels.specs.declared.Pair.{Pair}
-use Rattle.levels.specs.Levels.{level, Links, sentinel, orderOf, Linked, Row}
+use Rattle.levels.specs.Levels.{level, Links, sentinel, orderOf, Linked}
 use Rattle.levels.specs.Stitch.{pairAt, stitched, unstitched, cleared, Stitchable, Unstitchable}
 use Rattle.levels.specs.Search.{upTo, above, around, pairOn, searched, Rising, Searchable}
-use Rattle.levels.proofs.Runs.{Inserted, Skipped}
-use Rattle.levels.proofs.Joining.{length-stitched, stitched-field, stitched-level, stitched-link, length-unstitched, unstitched-field, unstitched-level, unstitched-link, length-cleared, cleared-field, cleared-link}
+use Rattle.levels.proofs.Runs.{Skipped}
+use Rattle.levels.proofs.Joining.{length-stitched, stitched-field, stitched-level, stitched-link, length-unstitched, unstitched-field, unstitched-level, unstitched-link, cleared-link}
 use Rattle.levels.proofs.Nearing.{in-turned}
-use Rattle.levels.proofs.Orders.{turned, sentinel-high, turned-all, link-level, order-kept, linked-kept, linked-of}
+use Rattle.levels.proofs.Orders.{turned, sentinel-high, turned-all, neighbour, order-kept, linked-kept, linked-of}
 use Rattle.levels.proofs.Splicing.{links-insert, links-remove}
 use Rattle.levels.proofs.Searching.{split-rank, up-to-le, above-lt, searched-pair}
 
@@ -209,8 +209,7 @@ module _ (rows : List ℕ) (cap levels n : ℕ) (size : length rows ≡ (cap + 2
   near l d j u =
       let p = in-split n (turned d (level (heights rows) l (orderOf rows cap)))
       (in-turned d n (level (heights rows) l (orderOf rows cap)) (split-in n (level (heights rows) l (orderOf rows cap)) (split-filter n (λ m. ltb l (heights rows m)) (orderOf rows cap) (lt-ltb l h j) (in-split n (orderOf rows cap) i)))) in
-      let e = link-level rows cap levels s l d (omega (arith, reach)) u (p .front ++ n ∷ []) (p .back) (p .whole ∙ sym (append-assoc (p .front) (n ∷ []) (p .back))) in
-      let f : links rows l d n ≡ headOr (p .back) (sentinel cap (1 - d)) = ap (links rows l d) (sym (last-append (sentinel cap d) (p .front) (n ∷ []))) ∙ e in
+      let f = neighbour rows cap levels s l d n (omega (arith, reach)) u (p .front) (p .back) (p .whole) in
       let low = all-right (λ m. m ≤ cap + 1) (p .front) (n ∷ p .back) (rw (p .whole) at (turned-all (λ m. m ≤ cap + 1) d (level (heights rows) l (orderOf rows cap)) (all-filter (λ m. m ≤ cap + 1) _ (orderOf rows cap) (all-imp (λ m. m < cap) (λ m. m ≤ cap + 1) (λ m k. omega arith) (orderOf rows cap) (s .nodes))))) .1 in
       rw f (all-head (λ m. m ≤ cap + 1) (p .back) (sentinel cap (1 - d)) low (sentinel-high cap (1 - d) .1))
 

@@ -3,10 +3,12 @@ ghost use mathlib.Core.Path.{_≡_};
 ghost use Prim.Native.Nat.{_+_, _*_, _≤_, _<_};
 ghost use lib.ListN.{length};
 ghost use Rattle.rows.specs.Rows.{links};
-ghost use Rattle.levels.specs.Levels.{Row};
+ghost use Rattle.lists.specs.Tests.{Says, Each};
+ghost use Rattle.levels.specs.Levels.{orderOf, Row, Linked};
 ghost use Rattle.levels.specs.Stitch.{joined, stitched, unstitched, cleared, Stitchable, Unstitchable};
-ghost use Rattle.levels.specs.Search.{searched, Searchable};
-ghost use Rattle.levels.specs.Nearest.{nearestOf, Walkable};
+ghost use Rattle.levels.specs.Search.{Rising, searched, Searchable};
+ghost use Rattle.levels.specs.Nearest.{nearestOf, Lowest, Walkable};
+ghost use Rattle.levels.specs.Test.{Follows, Followable, advanced, RightSize};
 
 // The directions.
 pub const AFTER: usize = 0;
@@ -141,4 +143,83 @@ pub fn nearest(rows: &[u32], cap: u32, d: usize, from: u32) -> u32
         m = link(rows, 0, d, m);
     }
     m
+}
+
+// Whether `m` and the last node so far are linked to each other on each level below `h`.
+fn follows(rows: &[u32], last: &[u32], m: u32, h: usize) -> bool
+    requires { ⌜ Followable (now rows) (now last) m h ⌝ }
+    ensures { λ r. ⌜ Says r (Each h (Follows (now (rows .entry)) (now (last .entry)) m)) ⌝ }
+{
+    let mut l: usize = 0;
+    while l < h {
+        let before = last[l];
+        if link(rows, l, AFTER, before) != m {
+            return false;
+        }
+        if link(rows, l, BEFORE, m) != before {
+            return false;
+        }
+        l += 1;
+    }
+    true
+}
+
+// Makes `m` the last node of each level below `h`.
+fn advance(last: &mut [u32], m: u32, h: usize)
+    requires { ⌜ h ≤ length (now last) ⌝ }
+    ensures { λ r. ⌜ now (last .exit) ≡ advanced (now (last .entry)) m h ⌝ }
+{
+    let mut l: usize = 0;
+    while l < h {
+        last[l] = m;
+        l += 1;
+    }
+}
+
+// Whether the levels are those of the order that the memory holds: one walk of the lowest level serves all of them.
+pub fn levels_ok(rows: &[u32], cap: u32, levels: u32) -> bool
+    requires { ⌜ RightSize (now rows) cap levels ⌝ }
+    ensures { λ r. ⌜ Says r (Linked (now (rows .entry)) cap levels) ⌝ }
+{
+    let mut last = [cap; 12];
+    let mut left = cap;
+    let mut m = link(rows, 0, AFTER, cap);
+    while m < cap {
+        if left == 0 {
+            return false;
+        }
+        let height = rows::cell(rows, m, rows::HEIGHT);
+        if height == 0 {
+            return false;
+        }
+        if height > levels {
+            return false;
+        }
+        let h = rows::wide(height);
+        if !follows(rows, &last, m, h) {
+            return false;
+        }
+        advance(&mut last, m, h);
+        m = link(rows, 0, AFTER, m);
+        left -= 1;
+    }
+    follows(rows, &last, cap + 1, rows::wide(levels))
+}
+
+// Whether keys never fall along the lowest level.
+pub fn keys_ok(keys: &[u64], rows: &[u32], cap: u32) -> bool
+    requires { ⌜ Lowest (now rows) cap × (length (now keys) ≡ cap) ⌝ }
+    ensures { λ r. ⌜ Says r (Rising (now (keys .entry)) (orderOf (now (rows .entry)) cap)) ⌝ }
+{
+    let mut key: u64 = 0;
+    let mut m = link(rows, 0, AFTER, cap);
+    while m < cap {
+        let at = rows::wide(m);
+        if keys[at] < key {
+            return false;
+        }
+        key = keys[at];
+        m = link(rows, 0, AFTER, m);
+    }
+    true
 }

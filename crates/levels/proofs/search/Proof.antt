@@ -1,8 +1,8 @@
 -- `levels::search` meets its contract. Both loops have the same invariant, `Going`: the search stands at the end of a part of the order whose
 -- keys are up to the rank, and the levels above are settled. The inner measure is how many nodes are ahead, the outer one the level.
 -- Assumes nothing.
-use Prim.Native.Nat.{ℕ, _≤_, _<_}
-use mathlib.Core.Path.{_≡_, refl, sym, ap, _∙_}
+use Prim.Native.Nat.{_≤_, _<_}
+use mathlib.Core.Path.{refl}
 use mathlib.Core.Logic.{_⊎_, ⊎-elim, inl, inr}
 use native.Mathlib.Omega.{arith}
 use lib.ListN.{getD, getD-replicate}
