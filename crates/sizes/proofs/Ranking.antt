@@ -11,36 +11,9 @@ use lib.IntN.{ℤ, pos, negsuc}
 use lib.Signed.{ltZ, leZ}
 use mir.Syntax.{w64}
 use mir.Val.{SFits, toZ, ofZ}
-use mir.ValLaws.{toZ-ofZ, toZ-pos, toZ-neg}
+use mir.ValLaws.{toZ-pos, toZ-neg}
 use borrow.Author.Tests.{ltb-true, lt-ltb, le-ltb, le-leb, lt-leb}
 use Rattle.sizes.specs.Rank.{rankOf, keyOf, patternOf, bucketOf}
-
--- what the code's test on the sign tells
-pub record Neg (z : ℤ) : Type 0 where
-  pub n : ℕ
-  pub is : z ≡ negsuc n
-  pub small : n < 2 ^ 63
-  pub flip : toZ w64 (18446744073709551615 - ofZ w64 z) ≡ pos n
-
-pub neg : (z : ℤ) → SFits w64 z → ltZ (toZ w64 (ofZ w64 z)) (pos 0) ≡ true → Neg z
-neg (pos n) f e =
-    let t : ltb n 0 ≡ true = ap (λ x. ltZ x (pos 0)) (sym (toZ-ofZ w64 (pos n) f)) ∙ e in
-    absurd (omega (arith, ltb-true n 0 t))
-neg (negsuc n) f e =
-    let q : 18446744073709551615 - (18446744073709551616 - suc n) ≡ n = omega (arith, f .sfits) in
-    record { n = n; is = refl; small = f .sfits; flip = rw q (toZ-pos w64 n (f .sfits)) }
-
-pub record NonNeg (z : ℤ) : Type 0 where
-  pub n : ℕ
-  pub is : z ≡ pos n
-  pub small : n < 2 ^ 63
-  pub same : toZ w64 (ofZ w64 z) ≡ pos n
-
-pub nonneg : (z : ℤ) → SFits w64 z → ltZ (toZ w64 (ofZ w64 z)) (pos 0) ≡ false → NonNeg z
-nonneg (pos n) f e = record { n = n; is = refl; small = f .sfits; same = toZ-ofZ w64 (pos n) f }
-nonneg (negsuc n) f e =
-    let t : true ≡ false = ap (λ x. ltZ x (pos 0)) (sym (toZ-ofZ w64 (negsuc n) f)) ∙ e in
-    absurd (true≢false t)
 
 -- LAW: ranks stand in the order of the keys
 pub rank-le : (a b : ℤ) → SFits w64 a → SFits w64 b → T (leZ a b) → rankOf a ≤ rankOf b

@@ -2,7 +2,7 @@
 -- Assumes nothing.
 use mathlib.Core.Path.{sym, ap, _∙_}
 use native.Mathlib.Omega.{arith}
-use Rattle.sizes.proofs.Ranking.{neg, nonneg}
+use Rattle.lists.proofs.Signs.{neg, nonneg}
 use Rattle.groups.specs.Signs.{turned}
 use Rattle.groups.proofs.Signing.{turn-neg, turn-pos}
 use Rattle.groups.proofs.turn.Statement.{statement}

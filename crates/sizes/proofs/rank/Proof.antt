@@ -4,7 +4,7 @@ use mathlib.Core.Path.{sym, ap}
 use native.Mathlib.Omega.{arith}
 use lib.IntN.{natAbs}
 use Rattle.sizes.specs.Rank.{rankOf}
-use Rattle.sizes.proofs.Ranking.{neg, nonneg}
+use Rattle.lists.proofs.Signs.{neg, nonneg}
 use Rattle.sizes.proofs.rank.Statement.{statement}
 use Rattle.sizes.proofs.rank.Tie as tie
 
