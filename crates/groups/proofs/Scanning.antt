@@ -1,6 +1,6 @@
 -- Laws of the reader's loop: what is known after some first bytes whose high bit is set, and what each byte then tells.
 -- Assumes nothing.
-use Prim.Native.Nat.{ℕ, zero, suc, _+_, _-_, _*_, _/_, _%_, _^_, _≤_, _<_}
+use Prim.Native.Nat.{ℕ, zero, suc, _+_, _-_, _*_, _%_, _^_, _≤_, _<_}
 use mathlib.Core.Path.{_≡_, refl, sym, ap, ap₂, subst, subst₂, _∙_}
 use mathlib.Core.Logic.{_⊎_, _≢_, inl, inr, ⊎-elim}
 use mathlib.Core.List.{List, [], _∷_, _++_, append-assoc}
@@ -11,7 +11,7 @@ use lib.ListN.{length, getD, take, drop, take-append-drop, length-append}
 use lib.Seq.{take-suc, take-all, length-take-le}
 use Rattle.lists.specs.Holds.{All}
 use Rattle.lists.proofs.Holding.{all-append, all-at, all-left}
-use Rattle.groups.specs.Groups.{worth, High, Written, Begun, Stands, Neither}
+use Rattle.groups.specs.Groups.{worth, High, Begun, Stands, Neither}
 use Rattle.groups.proofs.Standing.{worth-lt, worth-snoc, same-end, opened}
 
 -- count bytes are behind, each with its high bit set

@@ -1,8 +1,8 @@
 -- Laws of written numbers: what bytes are worth, no written form is the beginning of another, and a number has one written form.
 -- Assumes nothing.
-use Prim.Native.Nat.{ℕ, zero, suc, _+_, _*_, _%_, _^_, _≤_, _<_}
+use Prim.Native.Nat.{ℕ, suc, _+_, _*_, _%_, _^_, _≤_, _<_}
 use mathlib.Core.Path.{_≡_, refl, sym, ap, ap₂, _∙_}
-use mathlib.Core.Logic.{_⊎_, _≢_, inl, inr, ⊎-elim}
+use mathlib.Core.Logic.{_⊎_, _≢_, inr, ⊎-elim}
 use mathlib.Core.List.{List, [], _∷_, _++_, append-assoc}
 use native.Mathlib.Omega.{arith}
 use native.Mathlib.Nat.{pow-succ', mul-left-comm}
@@ -12,7 +12,7 @@ use Rattle.lists.specs.Holds.{All}
 use Rattle.lists.proofs.Holding.{all-at}
 use Rattle.groups.specs.declared.Number.{Number}
 use Rattle.groups.specs.declared.Number.the-variants.{Of, CutOff, Malformed}
-use Rattle.groups.specs.Groups.{worth, High, Written, Begun, Stands, Neither, Reads}
+use Rattle.groups.specs.Groups.{worth, High, Written, Begun, Stands, Reads}
 
 pub worth-lt : (bs : List ℕ) → worth bs < 128 ^ length bs
 worth-lt [] = omega arith

@@ -11,3 +11,5 @@ pub mod Reversing
 pub mod Signs
 pub mod Writing
 pub mod Entries
+pub mod Comparing
+pub mod Indexing

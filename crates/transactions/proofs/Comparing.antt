@@ -1,19 +1,19 @@
 -- Two ways to read the same bytes are one: the numbers read are the same, or one of the two could go on.
 -- Assumes nothing.
-use Prim.Native.Nat.{ℕ, zero, suc, _+_, _^_, _≤_, _<_}
+use Prim.Native.Nat.{ℕ, _^_, _<_}
 use mathlib.Core.Path.{_≡_, refl, sym, ap, ap₂, subst, _∙_}
 use mathlib.Core.Logic.{_⊎_, inl, inr, ⊎-elim}
-use mathlib.Core.Bool.{Bool, true}
+use mathlib.Core.Bool.{Bool}
 use mathlib.Core.List.{List, [], _∷_, _++_, append-assoc}
 use mathlib.Core.Option.{Option, none, some}
 use native.Mathlib.Omega.{arith}
 use lib.ListN.{length, take, drop}
 use lib.Seq.{drop-append-seam}
 use Rattle.lists.specs.Holds.{All}
-use Rattle.groups.specs.Groups.{Written, Begun, Stands, groupsOf}
+use Rattle.groups.specs.Groups.{Begun, Stands, groupsOf}
 use Rattle.groups.proofs.Standing.{stands-same}
 use Rattle.groups.proofs.Grouping.{groups-stand}
-use Rattle.transactions.specs.Sequences.{Sequence, bytesOf, AtMost, Within, Reached, Stops, Stopped, Waits}
+use Rattle.transactions.specs.Sequences.{bytesOf, Within, Reached, Stops, Stopped, Waits}
 use Rattle.transactions.proofs.Sequencing.{Limited, limited, sequence-fits, reached-whole, reached-length}
 
 -- a number within its limit stands behind these

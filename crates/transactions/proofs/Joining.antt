@@ -1,19 +1,20 @@
 -- Laws that join the reading of a code and of the numbers behind it to the reading of a call.
 -- Assumes nothing.
-use Prim.Native.Nat.{ℕ, zero, suc, _+_, _-_, _≤_}
-use mathlib.Core.Path.{_≡_, refl, sym, ap, subst, _∙_}
+use Prim.Native.Nat.{ℕ, _+_, _-_, _≤_}
+use mathlib.Core.Path.{_≡_, sym, ap, subst, _∙_}
 use mathlib.Core.Bool.{Bool}
-use mathlib.Core.List.{List, [], _∷_, _++_, append-assoc, append-nil}
-use mathlib.Core.Option.{Option, none, some}
+use mathlib.Core.List.{List, [], _∷_, _++_, append-nil}
+use mathlib.Core.Option.{Option, some}
 use native.Mathlib.Omega.{arith}
 use lib.ListN.{length, take, drop, length-drop}
 use lib.Seq.{take-add, drop-drop}
 use Rattle.groups.specs.Groups.{Begun, Stands}
 use Rattle.transactions.specs.declared.Three.{Three}
 use Rattle.transactions.specs.declared.Call.{Call}
-use Rattle.transactions.specs.Sequences.{First, Sequence, Within, listed, Reached, Stops, Stopped, Waits}
+use Rattle.transactions.specs.Sequences.{Sequence, listed, Reached, Stops, Stopped, Waits}
 use Rattle.transactions.specs.Calls.{small, operandsOf, callLimit, numbersOf}
-use Rattle.transactions.specs.Readings.{StopsAt, WholeNumbers, CodeRead, WholeCall, WholeHeader}
+use Rattle.transactions.specs.Readings.{StopsAt, WholeCall, WholeHeader}
+use Rattle.transactions.specs.Inner.{WholeNumbers, CodeRead}
 
 -- a code alone: reading it whole, or stopping at it
 pub code-whole : {rest : List ℕ} {at place : ℕ} {three : Three} → WholeNumbers (13 ∷ []) rest at three place → CodeRead rest at (three .first) place

@@ -1,21 +1,21 @@
 -- How long a call and a header are: for a caller that reads a file part by part.
 -- Assumes nothing.
 use Prim.Native.Nat.{ℕ, zero, suc, _+_, _*_, _^_, _≤_, _<_}
-use mathlib.Core.Path.{_≡_, refl, ap}
-use mathlib.Core.Bool.{Bool, true}
+use mathlib.Core.Path.{_≡_, refl}
+use mathlib.Core.Bool.{Bool}
 use mathlib.Core.List.{List, [], _∷_, _++_}
 use mathlib.Core.Option.{none, some}
 use native.Mathlib.Omega.{arith}
 use lib.Dec.{leb}
-use lib.ListN.{length, take, drop, getElem?, length-append, length-drop}
+use lib.ListN.{length, take, getElem?, length-append, length-drop}
 use borrow.Author.Tests.{leb-true}
 use Rattle.lists.specs.Holds.{All}
 use Rattle.lists.proofs.Entries.{tested-getD}
-use Rattle.groups.specs.Groups.{Begun, groupsOf}
+use Rattle.groups.specs.Groups.{groupsOf}
 use Rattle.groups.proofs.Grouping.{groups-some, groups-short, length-low}
 use Rattle.transactions.specs.declared.Header.{Header}
 use Rattle.transactions.specs.declared.Call.{Call}
-use Rattle.transactions.specs.Sequences.{bytesOf, Within, listed, Reached, Stops, Waits}
+use Rattle.transactions.specs.Sequences.{bytesOf, Within, listed, Reached, Waits}
 use Rattle.transactions.specs.Calls.{small, operands, operandsOf, callLimit, headerLimit, numbersOf}
 use Rattle.transactions.specs.Readings.{WholeCall, WholeHeader}
 use Rattle.transactions.proofs.Sequencing.{sequence-fits, reached-length}

@@ -2,8 +2,8 @@
 -- Assumes nothing.
 use Prim.Native.Nat.{ℕ, zero, suc, _≤_, _<_}
 use mathlib.Core.Path.{_≡_, refl, sym, ap, _∙_}
-use mathlib.Core.Bool.{Bool, true}
-use mathlib.Core.List.{List, [], _∷_, map}
+use mathlib.Core.Bool.{Bool}
+use mathlib.Core.List.{List, [], _∷_}
 use native.Mathlib.Omega.{arith}
 use native.Mathlib.Nat.{le-antisymm}
 use lib.ListN.{getD, take, List·getD-map}
@@ -14,13 +14,13 @@ use borrow.Author.Tests.{leb-true}
 use mir.Syntax.{w64}
 use mir.Val.{toZ, ofZ}
 use mir.ValLaws.{toZ-ofZ}
-use Rattle.lists.proofs.Holding.{every}
 use Rattle.lists.proofs.Entries.{tested-getD}
 use Rattle.groups.specs.Signs.{turned, unturned}
 use Rattle.groups.proofs.Signing.{turned-unturned}
 use Rattle.transactions.specs.declared.Operands.{Operands}
 use Rattle.transactions.specs.declared.Coded.{Coded}
-use Rattle.transactions.specs.Calls.{any, small, operands, OperandsFor, CodedAs}
+use Rattle.transactions.specs.Calls.{any, small}
+use Rattle.transactions.specs.Inner.{OperandsFor, CodedAs}
 
 abbrev pub limitsOf : Operands → List ℕ
 limitsOf o = take (o .count) (o .most)

@@ -3,16 +3,17 @@
 use Prim.Native.Nat.{ℕ, zero, suc, _+_, _≤_, _<_}
 use mathlib.Core.Path.{_≡_, refl, sym, ap, subst, _∙_}
 use mathlib.Core.Bool.{Bool, true, false, true≢false}
-use mathlib.Core.List.{List, [], _∷_, _++_}
+use mathlib.Core.List.{List, [], _∷_}
 use mathlib.Core.Option.{some}
 use native.Mathlib.Omega.{arith}
-use lib.ListN.{length, getD, set, take, drop, getElem?, length-set, length-drop, length-take}
+use lib.ListN.{length, getD, set, take, drop, getElem?, length-set}
 use lib.Seq.{length-take-le, take-suc-set, drop-drop}
 use native.Mathlib.Numerals.{add-one}
 use Rattle.groups.specs.Groups.{Begun, Stands, Neither}
 use Rattle.groups.proofs.Standing.{stands-same, stands-begun}
-use Rattle.transactions.specs.Sequences.{listed, Reached, Stops, Stopped, Waits}
-use Rattle.transactions.specs.Readings.{StopsAt, WholeNumbers}
+use Rattle.transactions.specs.Sequences.{listed, Reached, Stops, Waits}
+use Rattle.transactions.specs.Readings.{StopsAt}
+use Rattle.transactions.specs.Inner.{WholeNumbers}
 use Rattle.transactions.proofs.Sequencing.{reached-none, reached-more}
 
 -- the first i numbers are found, and the next begins at place

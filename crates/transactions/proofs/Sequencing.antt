@@ -2,19 +2,18 @@
 -- Assumes nothing.
 use Prim.Native.Nat.{ℕ, zero, suc, _+_, _^_, _≤_, _<_}
 use mathlib.Core.Path.{_≡_, refl, sym, ap, ap₂, subst, _∙_}
-use mathlib.Core.Logic.{_≢_}
 use mathlib.Core.List.{List, [], _∷_, _++_, append-assoc, append-nil}
 use mathlib.Core.Option.{Option, none, some}
 use native.Mathlib.Omega.{arith}
 use native.Mathlib.Numerals.{add-one}
 use native.Mathlib.Nat.{zero-add}
-use lib.ListN.{length, getD, take, drop, getElem?, take-append-drop, length-append, length-drop}
+use lib.ListN.{length, getD, take, drop, take-append-drop, length-append, length-drop}
 use lib.Seq.{sets, take-suc, take-add, take-at, length-take-le}
 use Rattle.lists.specs.Holds.{All}
-use Rattle.groups.specs.Groups.{Written, Begun, Stands, groupsOf}
+use Rattle.groups.specs.Groups.{Written, Stands, groupsOf}
 use Rattle.groups.proofs.Grouping.{written-groups, groups-written}
 use Rattle.groups.proofs.Writing.{sets-append}
-use Rattle.transactions.specs.Sequences.{First, Sequence, bytesOf, AtMost, Within, listed, Reached, Stops, Stopped, Waits}
+use Rattle.transactions.specs.Sequences.{Sequence, bytesOf, AtMost, Within, Reached}
 
 -- LAW: numbers below 2 ^ 64 have one sequence of bytes
 pub sequence-bytes : (ns bytes : List ℕ) → Sequence ns bytes → bytes ≡ bytesOf ns

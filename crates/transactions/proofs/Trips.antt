@@ -1,29 +1,25 @@
 -- Laws of reading and writing: two answers are equal, and each undoes the other.
 -- Assumes nothing.
-use Prim.Native.Nat.{ℕ, zero, suc, _+_, _*_, _^_, _≤_, _<_}
-use mathlib.Core.Path.{_≡_, refl, sym, ap, ap₂, subst, _∙_}
-use mathlib.Core.Bool.{Bool, true, false, true≢false}
-use mathlib.Core.List.{List, [], _∷_, _++_}
-use mathlib.Core.Option.{Option, none, some}
-use native.Mathlib.Omega.{arith}
-use lib.ListN.{length, take, drop, getD}
+use Prim.Native.Nat.{ℕ, _+_}
+use mathlib.Core.Path.{_≡_, refl, sym, ap, ap₂, _∙_}
+use mathlib.Core.Bool.{Bool, false, true≢false}
+use mathlib.Core.List.{List, _++_}
+use mathlib.Core.Option.{Option}
+use lib.ListN.{length, take, drop}
 use lib.Seq.{take-at}
-use Rattle.lists.specs.Holds.{All}
 use Rattle.groups.specs.declared.Wrote.the-variants.{Length}
 use Rattle.groups.specs.Buffers.{Writes}
-use Rattle.groups.specs.Groups.{Begun, groupsOf}
-use Rattle.groups.proofs.Grouping.{groups-some, groups-short, length-low}
 use Rattle.groups.proofs.Writing.{writes-length}
 use Rattle.transactions.specs.declared.Header.{Header}
 use Rattle.transactions.specs.declared.Call.{Call}
 use Rattle.transactions.specs.declared.Reading.{Reading}
 use Rattle.transactions.specs.declared.HeaderReading.{HeaderReading}
-use Rattle.transactions.specs.Sequences.{Sequence, bytesOf, Within, Reached, Stops, Stopped, Waits}
+use Rattle.transactions.specs.Sequences.{bytesOf, Reached, Waits}
 use Rattle.transactions.specs.Calls.{callLimit, headerLimit, numbersOf, headerOf, Typed, TypedHeader, WrittenCall, WrittenHeader}
 use Rattle.transactions.specs.Readings.{StopsAt, WholeCall, WholeHeader, CallRead, HeaderRead}
-use Rattle.transactions.proofs.Sequencing.{sequence-bytes, bytes-sequence, sequence-fits, reached-of, reached-bytes, reached-length}
+use Rattle.transactions.proofs.Sequencing.{sequence-bytes, bytes-sequence, reached-of, reached-bytes, reached-length}
 use Rattle.transactions.proofs.Comparing.{reached-same, whole-ends, whole-stops, stops-same, stopped-waits}
-use Rattle.transactions.proofs.Calling.{Ready, numbers-same, header-same, call-complete, call-ready, header-ready}
+use Rattle.transactions.proofs.Calling.{numbers-same, header-same, call-complete, call-ready, header-ready}
 
 -- a whole call, a whole header, as numbers that were reached
 pub call-reached : {rest : List ℕ} {call : Call} {len : ℕ} → WholeCall rest call len → Reached callLimit rest (numbersOf call) len

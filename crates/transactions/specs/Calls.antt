@@ -3,14 +3,12 @@
 use Prim.Native.Nat.{ℕ, _-_, _^_, _≤_}
 use mathlib.Core.Path.{_≡_}
 use mathlib.Core.List.{List, [], _∷_}
-use mathlib.Core.Option.{Option, none, some}
-use lib.ListN.{length, getD, take}
+use mathlib.Core.Option.{Option, some}
+use lib.ListN.{getD, take}
 use mir.Syntax.{w32, w64}
 use mir.Val.{Fits, SFits}
 use Rattle.groups.specs.Signs.{turned}
 use Rattle.transactions.specs.declared.Header.{Header}
-use Rattle.transactions.specs.declared.Operands.{Operands}
-use Rattle.transactions.specs.declared.Coded.{Coded}
 use Rattle.transactions.specs.declared.Call.{Call}
 use Rattle.transactions.specs.declared.Call.the-variants.{Lookup, Insert, Remove, HandOver, Ceil, Floor, Succ, Pred, Fast, Open, Step, Close, Sweep, Tally}
 use Rattle.transactions.specs.Sequences.{Sequence, Within, listed}
@@ -44,11 +42,6 @@ operands =
 
 abbrev pub operandsOf : ℕ → List ℕ
 operandsOf code = getD operands code []
-
--- the same as the code has it
-pub record OperandsFor (code : ℕ) (r : Operands) : Type 0 where
-  pub few : r .count ≤ 3
-  pub limits : take (r .count) (r .most) ≡ operandsOf code
 
 -- the limit of the next number of a call: of its code, and then by its code
 abbrev pub callLimit : List ℕ → Option ℕ
@@ -97,11 +90,6 @@ Typed Tally = Unit {0}
 
 abbrev pub TypedHeader : Header → Type 0
 TypedHeader h = Fits w32 (h .capacity) × Fits w32 (h .start .0)
-
--- the numbers as the code has them
-pub record CodedAs (numbers : List ℕ) (r : Coded) : Type 0 where
-  pub few : r .count ≤ 4
-  pub is : take (r .count) (r .of) ≡ numbers
 
 -- the bytes are the written form of a call, of a header
 pub record WrittenCall (call : Call) (bytes : List ℕ) : Type 0 where

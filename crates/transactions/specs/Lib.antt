@@ -1,3 +1,4 @@
 pub mod Sequences
 pub mod Calls
 pub mod Readings
+pub mod Inner

@@ -21,12 +21,12 @@ abbrev pub Sequence : List ℕ → List ℕ → Type 0
 Sequence [] bytes = bytes ≡ []
 Sequence (n ∷ ns) bytes = First n (Sequence ns) bytes
 
--- the same bytes, made
+-- these bytes
 abbrev pub bytesOf : List ℕ → List ℕ
 bytesOf [] = []
 bytesOf (n ∷ ns) = groupsOf n ++ bytesOf ns
 
--- The greatest value of the next number is a function of the numbers before it: none where nothing more belongs to them.
+-- A limit is the greatest value that the next number may have, given the numbers before it: none where nothing more belongs to them.
 abbrev pub AtMost : ℕ → Option ℕ → Type 0
 AtMost n none = ⊥
 AtMost n (some most) = n ≤ most
@@ -54,7 +54,7 @@ pub record Stops (limit : List ℕ → Option ℕ) (bytes : List ℕ) (offset : 
   pub due : limit numbers ≡ some most
   pub bad : (n len : ℕ) → Stands (drop offset bytes) n len → n ≤ most → ⊥
 
--- it stops there, and more bytes would not change that
+-- it stops there: where more bytes may follow, the number there is not one that is only begun
 pub record Stopped (limit : List ℕ → Option ℕ) (bytes : List ℕ) (more : Bool) (offset : ℕ) : Type 0 where
   pub stops : Stops limit bytes offset
   pub final : more ≡ true → Begun (drop offset bytes) → ⊥

@@ -6,8 +6,9 @@ ghost use lib.ListN.{length, take, drop};
 ghost use lib.Seq.{sets};
 ghost use Rattle.groups.specs.Buffers.{Writes};
 ghost use Rattle.transactions.specs.Sequences.{Within, bytesOf};
-ghost use Rattle.transactions.specs.Calls.{numbersOf, headerOf, operandsOf, callLimit, OperandsFor, CodedAs, small};
-ghost use Rattle.transactions.specs.Readings.{NumbersRead, CodeRead, HeaderRead, CallRead};
+ghost use Rattle.transactions.specs.Calls.{numbersOf, headerOf, operandsOf, callLimit, small};
+ghost use Rattle.transactions.specs.Readings.{HeaderRead, CallRead};
+ghost use Rattle.transactions.specs.Inner.{OperandsFor, CodedAs, NumbersRead, CodeRead};
 use groups::Number;
 use groups::Wrote;
 use groups::length_of;
@@ -60,21 +61,21 @@ pub enum HeaderReading {
 }
 
 // Up to three numbers, 0 where there are fewer.
-pub struct Three {
+struct Three {
     pub first: u64,
     pub second: u64,
     pub third: u64,
 }
 
 // Numbers and the place behind them, or why there are none.
-pub enum Numbers {
+enum Numbers {
     Whole(Three, usize),
     Stop(usize),
     More,
 }
 
 // How many numbers follow a code, and the greatest value of each.
-pub struct Operands {
+struct Operands {
     pub count: usize,
     pub most: [u64; 3],
 }
@@ -140,7 +141,7 @@ const OPERANDS: [Operands; 14] = [
 ];
 
 // Numbers to be written one after another: the first count of them.
-pub struct Coded {
+struct Coded {
     pub count: usize,
     pub of: [u64; 4],
 }

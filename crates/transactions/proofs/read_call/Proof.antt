@@ -2,11 +2,11 @@
 -- Assumes nothing.
 use mathlib.Core.Path.{subst}
 use mathlib.Core.List.{[], _∷_}
-use Rattle.transactions.specs.Readings.{NumbersRead}
 use Rattle.transactions.proofs.Joining.{code-whole, code-stop, code-waits}
 use borrow.Author.Needs.{needs}
 use Rattle.transactions.proofs.read_call.Statement.{statement}
 use Rattle.transactions.proofs.read_call.Tie as tie
+use Rattle.transactions.specs.Inner.{NumbersRead}
 
 read-numbers-requires : tie.Need-read-numbers-requires
 read-numbers-requires c κs = search needs

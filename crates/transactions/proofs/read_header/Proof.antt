@@ -3,7 +3,7 @@
 use mathlib.Core.Path.{subst}
 use mathlib.Core.List.{[], _∷_}
 use Rattle.transactions.specs.Calls.{small}
-use Rattle.transactions.specs.Readings.{WholeNumbers, NumbersRead}
+use Rattle.transactions.specs.Inner.{WholeNumbers, NumbersRead}
 use Rattle.transactions.proofs.Joining.{header-whole}
 use borrow.Author.Needs.{needs}
 use Rattle.transactions.proofs.read_header.Statement.{statement}

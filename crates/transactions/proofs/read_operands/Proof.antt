@@ -5,7 +5,7 @@ use native.Mathlib.Omega.{arith}
 use lib.ListN.{drop}
 use Rattle.transactions.specs.declared.Numbers.{Numbers}
 use Rattle.transactions.specs.Calls.{operandsOf}
-use Rattle.transactions.specs.Readings.{WholeNumbers, NumbersRead}
+use Rattle.transactions.specs.Inner.{WholeNumbers, NumbersRead}
 use Rattle.transactions.proofs.Joining.{operands-whole, operands-end, operands-call, operands-stop, operands-waits}
 use borrow.Author.Needs.{needs}
 use Rattle.transactions.proofs.read_operands.Statement.{statement}

@@ -1,0 +1,4 @@
+pub mod Near
+pub mod Nearest
+pub mod Lookup
+pub mod Tally

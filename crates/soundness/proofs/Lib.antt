@@ -1,0 +1,10 @@
+pub mod Walking
+pub mod Tickets
+pub mod Ringing
+pub mod Shown
+pub mod Resting
+pub mod Segments
+pub mod Wells
+pub mod Deciding
+pub mod Fresh
+pub mod Never
