@@ -4,11 +4,11 @@ use mathlib.Core.Path.{_≡_, refl, sym, ap, ap₂, _∙_}
 use mathlib.Core.Logic.{_≢_}
 use mathlib.Core.Bool.{Bool, true, false, cond}
 use mathlib.Core.List.{List, [], _∷_, map, map-map}
-use mathlib.Core.Option.{Option, none, some}
+use mathlib.Core.Option.{some}
 use Prim.Native.Nat.{ℕ, zero, suc, _+_, _≤_, _<_}
 use native.Mathlib.Omega.{arith}
 use native.Mathlib.Decide.{ℕ-discrete, decLe}
-use lib.ListN.{length, getD}
+use lib.ListN.{getD}
 use lib.Dec.{eqb, ltb, leb}
 use lib.IntN.{ℤ}
 use lib.Signed.{leZ, ltZ}
@@ -124,8 +124,7 @@ module _ (t : Tables) (S : Sound t) where
         linked = λ n l e. split-in n o (sound-covered t S n l (omega arith));
         last = strict (t .keys) g (t .rows) shown-present shown-key o (S .well .sorted);
       }
-
-  -- ---- the nearest node by filters over the order
+      -- ---- the nearest node by filters over the order
 
   abbrev nodes : List ℕ
   nodes = filter (present (t .rows)) o
@@ -148,11 +147,13 @@ module _ (t : Tables) (S : Sound t) where
 
   -- ---- what the model shows
 
-  pub plain-nodes : M.plain (view t) ≡ map (λ n. M.pairOf (g n)) nodes
+  -- LAW: the model's present nodes are those of the order that are marked so, and the plain map has their pairs
+  pub present-nodes : filter M.isPresent (view t .order) ≡ map g nodes
   unfolding view
-  plain-nodes =
-      ap (map M.pairOf) (filter-map g M.isPresent (present (t .rows)) o (all-every (λ n. M.isPresent (g n) ≡ present (t .rows) n) shown-present o))
-      ∙ map-map M.pairOf g nodes
+  present-nodes = filter-map g M.isPresent (present (t .rows)) o (all-every (λ n. M.isPresent (g n) ≡ present (t .rows) n) shown-present o)
+
+  pub plain-nodes : M.plain (view t) ≡ map (λ n. M.pairOf (g n)) nodes
+  plain-nodes = ap (map M.pairOf) present-nodes ∙ map-map M.pairOf g nodes
 
   -- the first and the last of some nodes, as pairs
   pairs-first : (xs : List ℕ) → All (λ n. n < cap) xs → first (map (λ n. M.pairOf (g n)) xs) ≡ pairAt t (headOr xs (cap + 1))
@@ -174,15 +175,12 @@ module _ (t : Tables) (S : Sound t) where
 
   -- LAW: a version above the counter may rest exactly on the present nodes
   pub stops-nodes : M.stops (suc (view t .counter)) (view t .order) ≡ map stopAt nodes
-  unfolding view
   stops-nodes =
       ap (map (λ (n : M.Node). (n .number, M.pairOf n)))
-      (filter-same (M.mayRest (suc c)) M.isPresent (map g o) (all-imp (Dated c) (λ n. M.mayRest (suc c) n ≡ M.isPresent n) (rests-new c) (map g o) (S .well .dated))
-      ∙ filter-map g M.isPresent (present (t .rows)) o (all-every (λ n. M.isPresent (g n) ≡ present (t .rows) n) shown-present o))
+      (filter-same (M.mayRest (suc (view t .counter))) M.isPresent (view t .order)
+      (all-imp (Dated (view t .counter)) (λ n. M.mayRest (suc (view t .counter)) n ≡ M.isPresent n) (rests-new (view t .counter)) (view t .order) (S .well .dated))
+      ∙ present-nodes)
       ∙ map-map (λ (n : M.Node). (n .number, M.pairOf n)) g nodes
-    where
-      c : ℕ
-      c = t .coordinator .counter .0
 
   rest-first : (xs : List ℕ) → All (λ n. n < cap) xs → M.restAt (map stopAt xs) ≡ restOf cap (headOr xs (cap + 1))
   unfolding nodeAt

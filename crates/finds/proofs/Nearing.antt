@@ -2,17 +2,17 @@
 -- Assumes nothing.
 use mathlib.Core.Path.{_≡_, refl, sym, ap, ap₂, _∙_}
 use mathlib.Core.Logic.{_≢_, inl}
-use mathlib.Core.Bool.{Bool, true, false, cond}
+use mathlib.Core.Bool.{Bool, true, false}
 use mathlib.Core.List.{List, [], _∷_, _++_, append-assoc, reverse}
-use Prim.Native.Nat.{ℕ, zero, suc, _+_, _-_, _≤_, _<_}
+use Prim.Native.Nat.{ℕ, zero, suc, _-_, _≤_, _<_}
 use native.Mathlib.Omega.{arith}
 use native.Mathlib.Decide.{decLe}
 use lib.ListN.{length, getD}
 use lib.Dec.{eqb, ltb, leb}
 use borrow.Author.Tests.{eq-eqb, ne-eqb, eqb-true, lt-ltb, le-ltb, ltb-true, le-leb, lt-leb}
 use Rattle.lists.specs.Holds.{All, Pairwise}
-use Rattle.lists.specs.Filters.{keep, filter, headOr, lastOr}
-use Rattle.lists.specs.Members.{In, Split}
+use Rattle.lists.specs.Filters.{keep, filter, headOr}
+use Rattle.lists.specs.Members.{Split}
 use Rattle.lists.proofs.Holding.{all-imp, pairwise-before, pairwise-right}
 use Rattle.lists.proofs.Filtering.{filter-append, filter-yes, filter-all, filter-none, filter-same, filter-comm}
 use Rattle.lists.proofs.Splits.{all-in, in-all, in-split}
@@ -21,7 +21,7 @@ use Rattle.lists.proofs.Reversing.{filter-reverse, head-reverse}
 use Rattle.rows.specs.Rows.{places, links}
 use Rattle.levels.specs.declared.Found as L
 use Rattle.levels.specs.Levels.{sentinel, orderOf}
-use Rattle.levels.specs.Search.{above, upTo, searched}
+use Rattle.levels.specs.Search.{upTo, searched}
 use Rattle.levels.specs.Nearest.{present, nearestOf, Lowest, Walkable}
 use Rattle.levels.proofs.Orders.{turned, link-at, order-in}
 use Rattle.levels.proofs.Nearing.{in-turned, turned-in, nearest-part, walk-on}

@@ -1,27 +1,28 @@
 -- Tally meets the model: the stored counts are those of the nodes.
 -- Assumes nothing.
-use mathlib.Core.Path.{_≡_, refl, sym, ap, ap₂, _∙_}
-use mathlib.Core.List.{List, map}
-use Prim.Native.Nat.{ℕ, _+_, _-_, _≤_}
+use mathlib.Core.Path.{_≡_, refl, sym, ap, _∙_}
+use mathlib.Core.List.{List}
+use Prim.Native.Nat.{ℕ, _+_, _-_}
 use native.Mathlib.Omega.{arith}
 use lib.ListN.{length, length-map}
 use Rattle.lists.specs.Filters.{filter}
-use Rattle.lists.proofs.Holding.{all-every}
-use Rattle.rows.specs.Rows.{places, removals}
 use Rattle.levels.specs.Levels.{orderOf}
 use Rattle.levels.specs.Nearest.{present}
-use Rattle.places.specs.Places.{presentCount, ringCount, freeOf, ringOf}
+use Rattle.places.specs.Places.{presentCount, ringCount, freeOf}
 use Rattle.places.proofs.Lists.{ring-length}
 use Rattle.places.proofs.Covering.{order-present}
 use Rattle.model.specs.Model as M
-use Rattle.model.specs.Calls.{tally, Answer, counts}
+use Rattle.model.specs.Calls.{tally, counts}
 use Rattle.model.specs.Answers.{ofTallied}
-use Rattle.tables.specs.Tables.{Tables, capacityOf, Sound, Met, view, nodeAt, rangesOf}
+use Rattle.tables.specs.Tables.{Tables, capacityOf, Sound, Met, view, nodeAt}
 use Rattle.tables.proofs.Telling.{sound-sized, sound-filled, sound-whole}
-use Rattle.tables.proofs.Finding.{here-mark}
 use Rattle.tables.proofs.Meeting.{met-same}
 use Rattle.finds.specs.Tally.{TallyReady, tallyAnswer}
-use Rattle.finds.proofs.Turning.{filter-map}
+use Rattle.finds.proofs.NearLaw.{present-nodes}
+
+tally-counts : (s : M.State) (p h f : ℕ) → length (filter M.isPresent (s .order)) ≡ p → M.heldIn (s .ranges) ≡ h → length (s .free) ≡ f → M.apply s tally ≡ (s, counts p h f)
+unfolding M.apply
+tally-counts s p h f a b c = rw (a, b, c)
 
 module _ (t : Tables) (S : Sound t) where
   abbrev cap : ℕ
@@ -29,9 +30,6 @@ module _ (t : Tables) (S : Sound t) where
 
   abbrev o : List ℕ
   o = orderOf (t .rows) cap
-
-  abbrev g : ℕ → M.Node
-  g = nodeAt (t .keys) (t .values) (t .rows)
 
   held : t .coordinator .due + M.heldIn (view t .ranges) ≡ ringCount (t .rows) cap
   unfolding view
@@ -41,19 +39,11 @@ module _ (t : Tables) (S : Sound t) where
   pub tally-ready : TallyReady (t .rows) cap (t .coordinator .due)
   tally-ready = record { sized = sound-sized t S; retired = omega (arith, held) }
 
-  shown-present : (n : ℕ) → M.isPresent (g n) ≡ present (t .rows) n
-  unfolding nodeAt
-  shown-present n = here-mark (places (t .rows) n) (removals (t .rows) n)
-
   present-all : length (filter M.isPresent (view t .order)) ≡ presentCount (t .rows) cap
-  unfolding view
   present-all =
-      ap length (filter-map g M.isPresent (present (t .rows)) o (all-every (λ n. M.isPresent (g n) ≡ present (t .rows) n) shown-present o))
-      ∙ (length-map (filter (present (t .rows)) o) g ∙ sym (order-present (t .rows) cap o (S .memory .seated) (sound-filled t S) (S .memory .counted)))
-
-  tally-counts : (s : M.State) (p h f : ℕ) → length (filter M.isPresent (s .order)) ≡ p → M.heldIn (s .ranges) ≡ h → length (s .free) ≡ f → M.apply s tally ≡ (s, counts p h f)
-  unfolding M.apply
-  tally-counts s p h f a b c = rw (a, b, c)
+      ap length (present-nodes t S)
+      ∙ (length-map (filter (present (t .rows)) o) (nodeAt (t .keys) (t .values) (t .rows))
+      ∙ sym (order-present (t .rows) cap o (S .memory .seated) (sound-filled t S) (S .memory .counted)))
 
   free-all : length (view t .free) ≡ length (freeOf (t .rows) cap)
   unfolding view

@@ -2,14 +2,14 @@
 -- Assumes nothing.
 use mathlib.Core.Path.{_≡_, refl, sym, ap, _∙_}
 use mathlib.Core.Logic.{inl, inr}
-use mathlib.Core.Bool.{Bool, true, false, cond}
-use mathlib.Core.List.{List, [], _∷_, _++_, append-nil}
-use Prim.Native.Nat.{ℕ, zero, suc, _-_, _≤_, _<_}
+use mathlib.Core.Bool.{Bool, true}
+use mathlib.Core.List.{List, [], _∷_, append-nil}
+use Prim.Native.Nat.{ℕ, zero, suc, _-_, _≤_}
 use native.Mathlib.Omega.{arith}
 use native.Mathlib.Decide.{ℕ-discrete}
 use lib.ListN.{length, getD}
-use borrow.Author.Tests.{eq-eqb, ne-eqb, lt-ltb, ltb-true}
-use Rattle.lists.specs.Holds.{All, Pairwise}
+use borrow.Author.Tests.{ne-eqb, lt-ltb, ltb-true}
+use Rattle.lists.specs.Holds.{All}
 use Rattle.lists.specs.Filters.{filter, headOr}
 use Rattle.lists.proofs.Holding.{all-imp, all-at, pairwise-right}
 use Rattle.lists.proofs.Filtering.{first-split, all-passed, filter-yes, filter-all}

@@ -1,6 +1,6 @@
 -- `finds::lookup` meets its contract: the value of the node that the bucket has, or none.
 -- Assumes nothing.
-use mathlib.Core.Path.{_≡_, ap, _∙_}
+use mathlib.Core.Path.{ap, _∙_}
 use mir.Syntax.{w64}
 use mir.ValLaws.{toZ-ofZ}
 use denote.Ref.{now}
@@ -9,41 +9,28 @@ use Rattle.finds.proofs.LookupLaw.{value-known, value-found, value-lost
 use borrow.Author.Needs.{needs}
 use Rattle.finds.proofs.lookup.Statement.{statement}
 use Rattle.finds.proofs.lookup.Tie as tie
-use Rattle.finds.proofs.lookup.Reads as reads
-use Rattle.finds.proofs.lookup.Lts as lts
-use Rattle.buckets.proofs.find.Reads as find-reads
-use Rattle.rows.proofs.wide.Reads as wide-reads
-use Rattle.sizes.proofs.rank.Reads as rank-reads
 
--- src/lib.rt:21:15
 cast-cap : tie.Need-cast-cap
 cast-cap c = search needs
 
--- src/lib.rt:22:76
 rank-requires : tie.Need-rank-requires
 rank-requires c κs = search needs
 
--- src/lib.rt:22:36
 find-requires : tie.Need-find-requires
 find-requires c κs = search needs
 
--- src/lib.rt:22:31
 enum-known-n : tie.Need-enum-known-n
 enum-known-n c = search needs
 
--- src/lib.rt:23:13
 wide-requires : tie.Need-wide-requires
 wide-requires c κs = search needs
 
--- src/lib.rt:24:29
 mul-t12 : tie.Need-mul-t12
 mul-t12 c = search needs
 
--- src/lib.rt:24:29
 shared-slice-copy-out-t14 : tie.Need-shared-slice-copy-out-t14
 shared-slice-copy-out-t14 c = value-known _ _ _ _ (c .before .before .before .before .before .rank .ensures) (c .before .before .before .before .find .ensures) (c .before .before .before .before .before .before .before .before .before .pre) (c .before .before .n .given .1) (c .wide .ensures)
 
--- src/lib.rt:24:9
 returns : tie.Need-returns
 returns c =
     value-found _ (now (c .before .before .before .before .before .before .before .before .before .before .args .values)) _ _ (c .before .before .before .before .before .before .rank .ensures ∙ ap rankOf (toZ-ofZ w64 (c .before .before .before .before .before .before .before .before .before .before .args .key) (c .before .before .before .before .before .before .before .before .before .before .fits .key)))
@@ -52,7 +39,6 @@ returns c =
 enum-told : tie.Need-enum-told
 enum-told c = search needs
 
--- src/lib.rt:17:1
 returns-2 : tie.Need-returns-2
 returns-2 c =
     value-lost _ (now (c .before .before .before .before .before .before .before .args .values)) _ _ (c .before .before .before .rank .ensures ∙ ap rankOf (toZ-ofZ w64 (c .before .before .before .before .before .before .before .args .key) (c .before .before .before .before .before .before .before .fits .key)))

@@ -1,51 +1,35 @@
 -- `finds::near` meets its contract: the node that the bucket has, the nearest beside it, or the nearest beside the place that the search found.
 -- Assumes nothing.
-use mathlib.Core.Path.{_≡_, sym, ap, _∙_}
+use mathlib.Core.Path.{sym, ap, _∙_}
 use native.Mathlib.Omega.{arith}
-use denote.Ref.{now}
 use Rattle.levels.specs.Nearest.{nearestOf}
 use Rattle.finds.proofs.Nearing.{held, unheld, near-here, near-beside, walk-beside, near-after, near-before, walk-after, walk-before}
 use borrow.Author.Needs.{needs}
 use Rattle.finds.proofs.near.Statement.{statement}
 use Rattle.finds.proofs.near.Tie as tie
-use Rattle.finds.proofs.near.Reads as reads
-use Rattle.finds.proofs.near.Lts as lts
-use Rattle.buckets.proofs.find.Reads as find-reads
-use Rattle.levels.proofs.link.Reads as link-reads
-use Rattle.levels.proofs.nearest.Reads as nearest-reads
-use Rattle.levels.proofs.search.Reads as search-reads
-use Rattle.tables.proofs.levels_of.Reads as levels-of-reads
 
--- src/lib.rt:12:15
 cast-cap : tie.Need-cast-cap
 cast-cap c = search needs
 
--- src/lib.rt:13:36
 find-requires : tie.Need-find-requires
 find-requires c κs = search needs
 
--- src/lib.rt:13:31
 enum-known-n : tie.Need-enum-known-n
 enum-known-n c = search needs
 
--- src/lib.rt:15:13
 returns : tie.Need-returns
 returns c =
-    let a = c .before .before .before .before .before .before .before .before .args in
     let s = c .before .before .before .before .before .before .before .before .pre .0 in
     let u = c .before .before .before .before .before .before .before .before .pre .1 in
     sym (near-here _ _ _ s _ u _ _ _ (held _ _ _ s _ (c .before .before .before .before .find .ensures) (c .before .before .n .given .1)) (c .if1 .taken))
 
--- src/lib.rt:17:46
 link-requires : tie.Need-link-requires
 link-requires c κs =
-    let a = c .before .before .before .before .before .before .before .before .args in
     let s = c .before .before .before .before .before .before .before .before .pre .0 in
     let u = c .before .before .before .before .before .before .before .before .pre .1 in
     let h = held _ _ _ s _ (c .before .before .before .before .find .ensures) (c .before .before .n .given .1) in
     (omega arith, u, omega (arith, h .node, s .searchable .size))
 
--- src/lib.rt:17:9
 nearest-requires : tie.Need-nearest-requires
 nearest-requires c κs =
     let a = c .before .before .before .before .before .before .before .before .before .args in
@@ -53,10 +37,8 @@ nearest-requires c κs =
     let u = c .before .before .before .before .before .before .before .before .before .pre .1 in
     rw (c .link .ensures) (walk-beside _ _ _ s _ u _ (a .at) _ (held _ _ _ s _ (c .before .before .before .before .before .find .ensures) (c .before .before .before .n .given .1)))
 
--- src/lib.rt:17:9
 returns-2 : tie.Need-returns-2
 returns-2 c =
-    let a = c .before .before .before .before .before .before .before .before .before .before .args in
     let s = c .before .before .before .before .before .before .before .before .before .before .pre .0 in
     let u = c .before .before .before .before .before .before .before .before .before .before .pre .1 in
     c .nearest .ensures
@@ -66,42 +48,29 @@ returns-2 c =
 enum-told : tie.Need-enum-told
 enum-told c = search needs
 
--- src/lib.rt:19:49
 levels-of-requires : tie.Need-levels-of-requires
 levels-of-requires c κs = search needs
 
--- src/lib.rt:19:9
 search-requires : tie.Need-search-requires
 search-requires c κs = rw (c .levels-of .ensures) (c .before .before .before .before .before .before .before .pre .0 .searchable)
 
--- src/lib.rt:22:9
 nearest-requires-2 : tie.Need-nearest-requires-2
 nearest-requires-2 c κs =
-    let a = c .before .before .before .before .before .before .before .before .before .before .args in
     let s = c .before .before .before .before .before .before .before .before .before .before .pre .0 in
-    let u = c .before .before .before .before .before .before .before .before .before .before .pre .1 in
     walk-after _ _ _ s _ (c .before .before .before .levels-of .ensures) (c .before .before .search .ensures)
 
--- src/lib.rt:22:9
 returns-3 : tie.Need-returns-3
 returns-3 c =
-    let a = c .before .before .before .before .before .before .before .before .before .before .before .args in
     let s = c .before .before .before .before .before .before .before .before .before .before .before .pre .0 in
-    let u = c .before .before .before .before .before .before .before .before .before .before .before .pre .1 in
     c .nearest2 .ensures ∙ sym (near-after _ _ _ s _ (c .before .before .before .before .levels-of .ensures) (c .before .before .before .search .ensures) _ (unheld _ _ _ s _ (c .before .before .before .before .before .before .before .find .ensures) (c .before .before .before .before .before .enum-told .given .1)) (c .before .if2 .taken))
 
--- src/lib.rt:24:5
 nearest-requires-3 : tie.Need-nearest-requires-3
 nearest-requires-3 c κs =
-    let a = c .before .before .before .before .before .before .before .before .before .before .args in
     let s = c .before .before .before .before .before .before .before .before .before .before .pre .0 in
-    let u = c .before .before .before .before .before .before .before .before .before .before .pre .1 in
     walk-before _ _ _ s _ (c .before .before .before .levels-of .ensures) (c .before .before .search .ensures)
 
--- src/lib.rt:8:1
 returns-4 : tie.Need-returns-4
 returns-4 c =
-    let a = c .before .before .before .before .before .before .before .before .before .before .before .args in
     let s = c .before .before .before .before .before .before .before .before .before .before .before .pre .0 in
     let u = c .before .before .before .before .before .before .before .before .before .before .before .pre .1 in
     c .nearest3 .ensures ∙ sym (near-before _ _ _ s _ (c .before .before .before .before .levels-of .ensures) (c .before .before .before .search .ensures) _ (unheld _ _ _ s _ (c .before .before .before .before .before .before .before .find .ensures) (c .before .before .before .before .before .enum-told .given .1)) (omega (arith, u, c .before .if2 .left)))

@@ -1,6 +1,6 @@
 -- `finds::nearest` meets its contract: the key of the nearest node, or 13 at a sentinel.
 -- Assumes nothing.
-use mathlib.Core.Path.{_≡_, ap, _∙_}
+use mathlib.Core.Path.{ap, _∙_}
 use mir.Syntax.{w64}
 use mir.ValLaws.{toZ-ofZ}
 use Rattle.sizes.specs.Rank.{rankOf}
@@ -8,44 +8,30 @@ use Rattle.finds.proofs.NearestLaw.{key-found, key-none}
 use borrow.Author.Needs.{needs}
 use Rattle.finds.proofs.nearest.Statement.{statement}
 use Rattle.finds.proofs.nearest.Tie as tie
-use Rattle.finds.proofs.nearest.Reads as reads
-use Rattle.finds.proofs.nearest.Lts as lts
-use Rattle.finds.proofs.near.Reads as near-reads
-use Rattle.rows.proofs.wide.Reads as wide-reads
-use Rattle.sizes.proofs.rank.Reads as rank-reads
-use Rattle.sizes.proofs.unrank.Reads as unrank-reads
 
--- src/lib.rt:61:44
 rank-requires : tie.Need-rank-requires
 rank-requires c κs = search needs
 
--- src/lib.rt:61:18
 near-requires : tie.Need-near-requires
 near-requires c κs = search needs
 
--- src/lib.rt:61:9
 wide-requires : tie.Need-wide-requires
 wide-requires c κs = search needs
 
--- src/lib.rt:63:43
 mul-unrank : tie.Need-mul-unrank
 mul-unrank c = search needs
 
--- src/lib.rt:63:43
 shared-slice-read-unrank : tie.Need-shared-slice-read-unrank
 shared-slice-read-unrank c = search needs
 
--- src/lib.rt:63:29
 unrank-requires : tie.Need-unrank-requires
 unrank-requires c κs = search needs
 
--- src/lib.rt:63:9
 returns : tie.Need-returns
 returns c =
     key-found _ _ _ _ (c .before .before .before .before .before .rank .ensures ∙ ap rankOf (toZ-ofZ w64 (c .before .before .before .before .before .before .before .before .before .args .key) (c .before .before .before .before .before .before .before .before .before .fits .key))) (c .before .before .before .before .near .ensures) (c .before .before .before .wide .ensures) (c .before .before .if1 .taken)
     (toZ-ofZ w64 _ (record { sfits = c .unrank .ok }) ∙ c .unrank .ensures)
 
--- src/lib.rt:50:1
 returns-2 : tie.Need-returns-2
 returns-2 c =
     key-none _ _ _ _ (c .before .before .before .rank .ensures ∙ ap rankOf (toZ-ofZ w64 (c .before .before .before .before .before .before .before .args .key) (c .before .before .before .before .before .before .before .fits .key))) (c .before .before .near .ensures) (c .before .wide .ensures) (c .if1 .left)
