@@ -1,2 +1,3 @@
 pub mod Once
+pub mod Entering
 pub mod Histories
