@@ -1,6 +1,7 @@
 -- The entry points' outcomes: the call, the tables afterwards and the answer on sound tables, and the refusal 1 on all others.
 -- Assumes nothing.
 use mathlib.Core.Bool.{Bool}
+use mathlib.Core.List.{List}
 use Prim.Native.Nat.{ℕ}
 use lib.IntN.{ℤ}
 use Rattle.model.specs.declared.Found.{Found}
@@ -10,8 +11,12 @@ use Rattle.model.specs.declared.Inserted.{Inserted}
 use Rattle.model.specs.declared.Removed.{Removed}
 use Rattle.model.specs.declared.Handed.{Handed}
 use Rattle.model.specs.declared.Swept.{Swept}
+use Rattle.model.specs.declared.Closed.{Closed}
+use Rattle.model.specs.declared.Opened.{Opened}
+use Rattle.model.specs.declared.Stepped.{Stepped}
+use Rattle.model.specs.declared.Ranged.{Ranged}
 use Rattle.model.specs.Calls as C
-use Rattle.model.specs.Answers.{ofFound, ofNearest, ofTallied, ofInserted, ofRemoved, ofHanded, ofSwept}
+use Rattle.model.specs.Answers.{ofFound, ofNearest, ofTallied, ofInserted, ofRemoved, ofHanded, ofSwept, ofClosed, ofOpened, ofStepped, ofRanged}
 use Rattle.tables.specs.Tables.{Tables}
 use Rattle.finds.specs.Lookup.{lookupAnswer}
 use Rattle.finds.specs.Nearest.{nearestCall, nearestAnswer}
@@ -20,6 +25,12 @@ use Rattle.changes.specs.Insert.{insertAnswer, insertTables}
 use Rattle.changes.specs.Remove.{removeAnswer, removeTables}
 use Rattle.returns.specs.HandOver.{handingOf, handedTables}
 use Rattle.returns.specs.Sweep.{sweeping, sweptTables}
+use Rattle.lists.specs.Buffers.{written}
+use Rattle.ranges.specs.Walk.{keysOf, valuesOf}
+use Rattle.ranges.specs.Close.{closingOf, closedTables}
+use Rattle.ranges.specs.Open.{openingOf, openedTo}
+use Rattle.ranges.specs.Step.{roomOf, steppingOf, stepNodes, stepEnd, steppedTo}
+use Rattle.ranges.specs.Fast.{fastOf, fastGiven}
 use Rattle.calls.specs.Outcome.{Outcome}
 
 -- the tables are all that is lent
@@ -50,3 +61,48 @@ HandsOver t t′ n r = Outcome itself ofHanded (C.handOver n) t t′ (handedTabl
 
 abbrev pub Sweeps : Tables → Tables → Swept → Type 0
 Sweeps t t′ r = Outcome itself ofSwept C.sweep t t′ (sweptTables (t .coordinator .due) t) r (sweeping (t .coordinator .due)) (Swept.Refused 1)
+
+abbrev pub Closes : Tables → Tables → ℕ → Closed → Type 0
+Closes t t′ v r = Outcome itself ofClosed (C.close v) t t′ (closedTables t v) r (closingOf t v .answer) (Closed.Refused 1)
+
+abbrev pub Opens : Tables → Tables → ℤ → ℤ → Opened → Type 0
+Opens t t′ l h r = Outcome itself ofOpened (C.«open» l h) t t′ (openedTo t (openingOf t l h)) r (openingOf t l h .answer) (Opened.Refused 1)
+
+-- ---- the calls that hand out pairs: the pair buffers are lent too
+
+pub record Lent : Type 0 where
+  pub tables : Tables
+  pub keysOut : List ℤ
+  pub valuesOut : List ℤ
+
+abbrev pub with : Tables → List ℤ → List ℤ → Lent
+with t ks vs = record { tables = t; keysOut = ks; valuesOut = vs }
+
+-- the pairs of these nodes at the front of the two buffers, the rest kept
+abbrev pub keysLaid : Tables → List ℕ → List ℤ → List ℤ
+keysLaid t nodes ks = written ks 0 (keysOf (t .keys) nodes)
+
+abbrev pub valuesLaid : Tables → List ℕ → List ℤ → List ℤ
+valuesLaid t nodes vs = written vs 0 (valuesOf (t .values) nodes)
+
+-- the nodes whose pairs a step hands out
+abbrev pub stepped : Tables → ℕ → List ℤ → List ℤ → List ℕ
+stepped t v ks vs = stepNodes (steppingOf (t .tickets) (t .coordinator .ranges) v ks vs) (t .keys) (t .rows) (t .tickets) (roomOf ks vs)
+
+abbrev pub Steps : Tables → List ℤ → List ℤ → Tables → List ℤ → List ℤ → ℕ → Stepped → Type 0
+Steps t ks vs t′ ks′ vs′ v r =
+    Outcome (λ (x : Lent). x .tables) (ofStepped (keysLaid t (stepped t v ks vs) ks) (valuesLaid t (stepped t v ks vs) vs)) (C.step v (roomOf ks vs))
+    (with t ks vs) (with t′ ks′ vs′)
+    (with (steppedTo t (stepEnd (steppingOf (t .tickets) (t .coordinator .ranges) v ks vs) (t .keys) (t .rows) (t .tickets) (roomOf ks vs) .tickets))
+    (keysLaid t (stepped t v ks vs) ks) (valuesLaid t (stepped t v ks vs) vs)) r
+    (stepEnd (steppingOf (t .tickets) (t .coordinator .ranges) v ks vs) (t .keys) (t .rows) (t .tickets) (roomOf ks vs) .answer) (Stepped.Refused 1)
+
+-- the nodes whose pairs a fast range hands out
+abbrev pub fastly : Tables → ℤ → ℤ → List ℤ → List ℤ → List ℕ
+fastly t l h ks vs = fastGiven (t .keys) (t .rows) (t .coordinator .counter .0) l h (roomOf ks vs)
+
+abbrev pub Ranges : Tables → List ℤ → List ℤ → List ℤ → List ℤ → ℤ → ℤ → Ranged → Type 0
+Ranges t ks vs ks′ vs′ l h r =
+    Outcome (λ (x : Lent). x .tables) (ofRanged (keysLaid t (fastly t l h ks vs) ks) (valuesLaid t (fastly t l h ks vs) vs)) (C.fast l h (roomOf ks vs))
+    (with t ks vs) (with t ks′ vs′) (with t (keysLaid t (fastly t l h ks vs) ks) (valuesLaid t (fastly t l h ks vs) vs)) r
+    (fastOf (t .keys) (t .rows) (t .coordinator .counter .0) l h (roomOf ks vs)) (Ranged.Refused 1)

@@ -1,21 +1,26 @@
 // The entry points: each tests the tables, refuses with 1 where they are not sound, and else makes the call. Nothing is asked of the memory that is lent.
+use model::Closed;
 use model::Found;
 use model::Handed;
 use model::Inserted;
 use model::Nearest;
+use model::Opened;
+use model::Ranged;
 use model::Removed;
+use model::Stepped;
 use model::Swept;
 use model::Tallied;
 use returns::HandOver;
 use returns::Sweep;
 use sizes::Node;
+use sizes::Version;
 use soundness::sound;
 use tables::Coordinator;
 use tables::Ticket;
 ghost use mathlib.Core.Bool.{true, false};
 ghost use Prim.Native.Nat.{_≤_};
 ghost use Rattle.soundness.specs.Tested.{lent};
-ghost use Rattle.calls.specs.Entries.{Looks, Nears, Tallies, Inserts, Removes, HandsOver, Sweeps};
+ghost use Rattle.calls.specs.Entries.{Looks, Nears, Tallies, Inserts, Removes, HandsOver, Sweeps, Closes, Opens, Steps, Ranges};
 
 // Lookup: the value of the key.
 pub fn lookup(
@@ -252,4 +257,113 @@ pub fn sweep(
         };
     }
     returns::sweep_one(rows, keys.len() as u32, coordinator)
+}
+
+// Open: a range with these bounds; the answer is its version.
+pub fn open_range(
+    keys: &[u64],
+    values: &[i64],
+    rows: &[u32],
+    buckets: &[u32],
+    tickets: [Ticket; 16],
+    coordinator: Coordinator,
+    low: i64,
+    high: i64,
+) -> ranges::Open
+    ensures { λ r. ⌜ Opens (lent (now (keys .entry)) (now (values .entry)) (now (rows .entry)) (now (buckets .entry)) tickets coordinator) (lent (now (keys .entry)) (now (values .entry)) (now (rows .entry)) (now (buckets .entry)) (r .tickets) (r .coordinator)) low high (r .answer) ⌝ }
+{
+    if !sound(keys, values, rows, buckets, tickets, coordinator) {
+        return ranges::Open {
+            answer: Opened::Refused(1),
+            tickets,
+            coordinator,
+        };
+    }
+    ranges::open_range(keys, rows, buckets, tickets, coordinator, low, high)
+}
+
+// Close: the open range of that version, at any moment.
+pub fn close_range(
+    keys: &[u64],
+    values: &[i64],
+    rows: &[u32],
+    buckets: &[u32],
+    tickets: [Ticket; 16],
+    coordinator: Coordinator,
+    version: Version,
+) -> ranges::Close
+    ensures { λ r. ⌜ Closes (lent (now (keys .entry)) (now (values .entry)) (now (rows .entry)) (now (buckets .entry)) tickets coordinator) (lent (now (keys .entry)) (now (values .entry)) (now (rows .entry)) (now (buckets .entry)) (r .tickets) (r .coordinator)) (version .0) (r .answer) ⌝ }
+{
+    if !sound(keys, values, rows, buckets, tickets, coordinator) {
+        return ranges::Close {
+            answer: Closed::Refused(1),
+            tickets,
+            coordinator,
+        };
+    }
+    ranges::close_range(tickets, coordinator, version)
+}
+
+// Step: the next pairs of the open range of that version, as many as both buffers have places for.
+pub fn step_range(
+    keys: &[u64],
+    values: &[i64],
+    rows: &[u32],
+    buckets: &[u32],
+    tickets: [Ticket; 16],
+    coordinator: Coordinator,
+    version: Version,
+    out_keys: &mut [i64],
+    out_values: &mut [i64],
+) -> ranges::Step
+    ensures { λ r. ⌜ Steps (lent (now (keys .entry)) (now (values .entry)) (now (rows .entry)) (now (buckets .entry)) tickets coordinator) (now («out_keys» .entry)) (now («out_values» .entry)) (lent (now (keys .entry)) (now (values .entry)) (now (rows .entry)) (now (buckets .entry)) (r .tickets) coordinator) (now («out_keys» .exit)) (now («out_values» .exit)) (version .0) (r .answer) ⌝ }
+{
+    if !sound(keys, values, rows, buckets, tickets, coordinator) {
+        return ranges::Step {
+            answer: Stepped::Refused(1),
+            tickets,
+        };
+    }
+    ranges::step_range(
+        keys,
+        values,
+        rows,
+        tickets,
+        coordinator.ranges,
+        version,
+        out_keys,
+        out_values,
+    )
+}
+
+// Fast range: all pairs within the bounds, where they are at most 64 and both buffers have places for them.
+pub fn fast_range(
+    keys: &[u64],
+    values: &[i64],
+    rows: &[u32],
+    buckets: &[u32],
+    tickets: [Ticket; 16],
+    coordinator: Coordinator,
+    low: i64,
+    high: i64,
+    out_keys: &mut [i64],
+    out_values: &mut [i64],
+) -> Ranged
+    ensures { λ r. ⌜ Ranges (lent (now (keys .entry)) (now (values .entry)) (now (rows .entry)) (now (buckets .entry)) tickets coordinator) (now («out_keys» .entry)) (now («out_values» .entry)) (now («out_keys» .exit)) (now («out_values» .exit)) low high r ⌝ }
+{
+    if !sound(keys, values, rows, buckets, tickets, coordinator) {
+        return Ranged::Refused(1);
+    }
+    let counter = coordinator.counter;
+    ranges::fast_range(
+        keys,
+        values,
+        rows,
+        buckets,
+        counter,
+        low,
+        high,
+        out_keys,
+        out_values,
+    )
 }

@@ -1,0 +1,12 @@
+pub mod Mapping
+pub mod Tickets
+pub mod CloseCases
+pub mod CloseLaw
+pub mod Walking
+pub mod WalkLaw
+pub mod StepCases
+pub mod StepLaw
+pub mod OpenCases
+pub mod OpenLaw
+pub mod FastCases
+pub mod FastLaw
