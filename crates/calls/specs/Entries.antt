@@ -28,8 +28,8 @@ use Rattle.returns.specs.Sweep.{sweeping, sweptTables}
 use Rattle.lists.specs.Buffers.{written}
 use Rattle.ranges.specs.Walk.{keysOf, valuesOf}
 use Rattle.ranges.specs.Close.{closingOf, closedTables}
-use Rattle.ranges.specs.Open.{openingOf, openedTo}
-use Rattle.ranges.specs.Step.{roomOf, steppingOf, stepNodes, stepEnd, steppedTo}
+use Rattle.ranges.specs.Open.{openingOf, openedTables}
+use Rattle.ranges.specs.Step.{roomOf, stepGiven, steppingOf, steppedTables}
 use Rattle.ranges.specs.Fast.{fastOf, fastGiven}
 use Rattle.calls.specs.Outcome.{Outcome}
 
@@ -66,7 +66,7 @@ abbrev pub Closes : Tables → Tables → ℕ → Closed → Type 0
 Closes t t′ v r = Outcome itself ofClosed (C.close v) t t′ (closedTables t v) r (closingOf t v .answer) (Closed.Refused 1)
 
 abbrev pub Opens : Tables → Tables → ℤ → ℤ → Opened → Type 0
-Opens t t′ l h r = Outcome itself ofOpened (C.«open» l h) t t′ (openedTo t (openingOf t l h)) r (openingOf t l h .answer) (Opened.Refused 1)
+Opens t t′ l h r = Outcome itself ofOpened (C.«open» l h) t t′ (openedTables t l h) r (openingOf t l h .answer) (Opened.Refused 1)
 
 -- ---- the calls that hand out pairs: the pair buffers are lent too
 
@@ -87,15 +87,14 @@ valuesLaid t nodes vs = written vs 0 (valuesOf (t .values) nodes)
 
 -- the nodes whose pairs a step hands out
 abbrev pub stepped : Tables → ℕ → List ℤ → List ℤ → List ℕ
-stepped t v ks vs = stepNodes (steppingOf (t .tickets) (t .coordinator .ranges) v ks vs) (t .keys) (t .rows) (t .tickets) (roomOf ks vs)
+stepped t v ks vs = stepGiven (t .keys) (t .rows) (t .tickets) (t .coordinator .ranges) v (roomOf ks vs)
 
 abbrev pub Steps : Tables → List ℤ → List ℤ → Tables → List ℤ → List ℤ → ℕ → Stepped → Type 0
 Steps t ks vs t′ ks′ vs′ v r =
     Outcome (λ (x : Lent). x .tables) (ofStepped (keysLaid t (stepped t v ks vs) ks) (valuesLaid t (stepped t v ks vs) vs)) (C.step v (roomOf ks vs))
     (with t ks vs) (with t′ ks′ vs′)
-    (with (steppedTo t (stepEnd (steppingOf (t .tickets) (t .coordinator .ranges) v ks vs) (t .keys) (t .rows) (t .tickets) (roomOf ks vs) .tickets))
-    (keysLaid t (stepped t v ks vs) ks) (valuesLaid t (stepped t v ks vs) vs)) r
-    (stepEnd (steppingOf (t .tickets) (t .coordinator .ranges) v ks vs) (t .keys) (t .rows) (t .tickets) (roomOf ks vs) .answer) (Stepped.Refused 1)
+    (with (steppedTables t v (roomOf ks vs)) (keysLaid t (stepped t v ks vs) ks) (valuesLaid t (stepped t v ks vs) vs)) r
+    (steppingOf t v (roomOf ks vs) .answer) (Stepped.Refused 1)
 
 -- the nodes whose pairs a fast range hands out
 abbrev pub fastly : Tables → ℤ → ℤ → List ℤ → List ℤ → List ℕ

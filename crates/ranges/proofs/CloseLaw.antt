@@ -17,8 +17,6 @@ use Rattle.model.specs.Calls.{close, refused, madeDue}
 use Rattle.model.specs.Answers.{ofClosed}
 use Rattle.model.proofs.PlainMap.{refuses}
 use Rattle.model.proofs.Applied.{close-ends}
-use Rattle.model.specs.declared.Closed.{Closed}
-use Rattle.model.specs.declared.Closed.the-variants.{Due}
 use Rattle.tables.specs.declared.Ticket.{Ticket}
 use Rattle.tables.specs.declared.Coordinator.{Coordinator}
 use Rattle.tables.specs.Tables.{Tables, capacityOf, Lengths, Resting, Sound, Met, view, rangeOf, rangesOf}
@@ -26,8 +24,8 @@ use Rattle.tables.proofs.Ranging.{ticketAt, gained, range-held, range-gained}
 use Rattle.tables.proofs.Telling.{sound-whole, sound-sized}
 use Rattle.tables.proofs.Meeting.{met, met-same}
 use Rattle.ranges.specs.declared.Close.{Close}
-use Rattle.ranges.specs.Tickets.{indexOf, slide}
-use Rattle.ranges.specs.Close.{CloseReady, closeAt, closing, closedTo, closingOf, closedTables}
+use Rattle.ranges.specs.Tickets.{indexOf, slide, withTickets}
+use Rattle.ranges.specs.Close.{CloseReady, closeAt, closing, closingOf, closedTables}
 use Rattle.ranges.proofs.Tickets.{length-slide, named-ticket, held-ticket, range-found, range-lost, all-at, all-set, all-slide}
 
 -- ---- the ranges that are left
@@ -90,8 +88,11 @@ module _ (t : Tables) (S : Sound t) (v : ℕ) where
   abbrev j : ℕ
   j = indexOf v k (t .tickets)
 
+  abbrev after : Close → Tables
+  after r = withTickets t (r .tickets) (r .coordinator)
+
   abbrev Goal : Close → Type 0
-  Goal r = Met t (closedTo t r) (close v) (ofClosed (r .answer))
+  Goal r = Met t (after r) (close v) (ofClosed (r .answer))
 
   none-found : k ≤ j → Goal (closeAt false j (t .tickets) c)
   unfolding view
@@ -124,22 +125,22 @@ module _ (t : Tables) (S : Sound t) (v : ℕ) where
       there : indexOf v (suc n) (x ∷ us) < suc n → lacks (M.range v (rangeOf cap x ∷ rangesOf cap us n)) ≡ false
       there u = ap lacks (range-found cap v (suc n) (x ∷ us) u)
 
-      lengths : (ts′ : List Ticket) (c′ : Coordinator) (a : Closed) → length ts′ ≡ 16 → Lengths (closedTo t (record { answer = a; tickets = ts′; coordinator = c′ }))
-      lengths ts′ c′ a u =
+      lengths : (ts′ : List Ticket) (c′ : Coordinator) → length ts′ ≡ 16 → Lengths (withTickets t ts′ c′)
+      lengths ts′ c′ u =
           record { known = S .lengths .known; values = S .lengths .values; rows = S .lengths .rows; buckets = S .lengths .buckets; tickets = u }
 
       go : (b : Bool) → eqb (x .version .0) v ≡ b → (i : ℕ) → cond b 0 (suc (indexOf v n us)) ≡ i → i < suc n → Goal (closeAt true i (x ∷ us) c)
       go true b zero q h =
-          met t (closedTo t (closeAt true 0 (x ∷ us) c)) (close v) (madeDue (x .held)) S
-          (lengths _ _ (Due 0) (length-slide 0 k (x ∷ us) ∙ sixteen)) (S .memory) (S .hashed) small
+          met t (after (closeAt true 0 (x ∷ us) c)) (close v) (madeDue (x .held)) S
+          (lengths _ _ (length-slide 0 k (x ∷ us) ∙ sixteen)) (S .memory) (S .hashed) small
           (rw (fewer, f) (all-slide (Resting cap) 0 n (x ∷ us) (omega arith) resting))
           (close-ends (view t) v (rangeOf cap x) (rangesOf cap us n) now-ranges (there (rw b (omega arith)))
           ∙ rw (named-ticket cap v x, b, held-ticket cap x, fewer, f, ranges-first cap n x us (omega arith)))
       go true b (suc i) q h = absurd (omega arith)
       go false b zero q h = absurd (omega arith)
       go false b (suc i) q h =
-          met t (closedTo t (closeAt true (suc i) (x ∷ us) c)) (close v) (madeDue 0) S
-          (lengths _ _ (Due 0) (length-slide (suc i) k (given (x ∷ us) i) ∙ length-set (x ∷ us) i _ ∙ sixteen)) (S .memory) (S .hashed) small
+          met t (after (closeAt true (suc i) (x ∷ us) c)) (close v) (madeDue 0) S
+          (lengths _ _ (length-slide (suc i) k (given (x ∷ us) i) ∙ length-set (x ∷ us) i _ ∙ sixteen)) (S .memory) (S .hashed) small
           (rw (fewer, f) (all-slide (Resting cap) (suc i) n (given (x ∷ us) i) (omega arith)
           (all-set (Resting cap) (x ∷ us) (suc n) i _ (all-at (Resting cap) (x ∷ us) (suc n) i (omega arith) (omega arith) resting) resting)))
           (close-ends (view t) v (rangeOf cap x) (rangesOf cap us n) now-ranges (there (rw (b, q) h))

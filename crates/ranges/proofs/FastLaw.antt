@@ -26,7 +26,7 @@ use Rattle.tables.proofs.Meeting.{met-same}
 use Rattle.finds.proofs.NearLaw.{near-ready}
 use Rattle.ranges.specs.Walk.{keysOf, valuesOf}
 use Rattle.ranges.specs.Step.{roomOf}
-use Rattle.ranges.specs.Fast.{fastNodes, fastAnswer, given, FastReady, fastOf}
+use Rattle.ranges.specs.Fast.{fastNodes, fastAnswer, given, FastReady, fastOf, RangedBy}
 use Rattle.ranges.proofs.WalkLaw.{paired-written, pairAt, pairs-stops, left-walk}
 use Rattle.ranges.proofs.OpenLaw.{fresh, new-range, new-resting, new-rested}
 
@@ -83,3 +83,7 @@ module _ (t : Tables) (S : Sound t) (low high : ℤ) (fl : SFits w64 low) (fh : 
       go false true c e f h = rw (e, f) (many e f)
       go false false true e f h = rw (e, f, h) (full e f h)
       go false false false e f h = rw (e, f, h) (gives e f h)
+
+  -- LAW: so does whatever fast_range comes to
+  pub fast-outcome : (ks′ vs′ : List ℤ) (r : Ranged) → RangedBy (t .keys) (t .values) (t .rows) (t .coordinator .counter .0) low high ks vs ks′ vs′ r → Met t t (fast low high room) (ofRanged ks′ vs′ r)
+  fast-outcome ks′ vs′ r h = rw (h .answer, h .keysOut, h .valuesOut) fast-meets

@@ -1,4 +1,4 @@
--- Laws on lists: a map with take, drop, filter and one more element, and how long a filtered list is. (They belong to `lists`.)
+-- Laws on lists: a map with take, drop and one more element, and how long a filtered list is. (They belong to `lists`.)
 -- Assumes nothing.
 use mathlib.Core.Path.{_≡_, refl, ap}
 use mathlib.Core.Bool.{Bool, true, false}
@@ -40,12 +40,3 @@ module _ {A B : Type 0} (f : A → B) where
   pub all-mapped : (P : B → Type 0) (xs : List A) → All P (map f xs) → All (λ x. P (f x)) xs
   all-mapped P [] a = tt
   all-mapped P (x ∷ xs) a = (a .0, all-mapped P xs (a .1))
-
-  -- those of the image that pass, where the test is one of the origin
-  pub map-filter : (p : B → Bool) (q : A → Bool) → ((x : A) → p (f x) ≡ q x) → (xs : List A) → filter p (map f xs) ≡ map f (filter q xs)
-  map-filter p q e [] = refl
-  map-filter p q e (x ∷ xs) = rw (e x) (go (q x) (map-filter p q e xs))
-    where
-      go : (b : Bool) → filter p (map f xs) ≡ map f (filter q xs) → keep b (f x) (filter p (map f xs)) ≡ map f (keep b x (filter q xs))
-      go true h = ap (f x ∷_) h
-      go false h = h

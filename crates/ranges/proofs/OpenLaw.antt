@@ -36,6 +36,7 @@ use Rattle.finds.specs.Near.{nearOf, NearReady}
 use Rattle.finds.proofs.NearLaw.{near-ready, rest-near}
 use Rattle.finds.proofs.Walking.{near-walkable}
 use Rattle.ranges.specs.declared.Open.{Open}
+use Rattle.ranges.specs.Tickets.{withTickets}
 use Rattle.ranges.specs.Open as O
 
 -- ---- one ticket more
@@ -85,8 +86,11 @@ module _ (t : Tables) (S : Sound t) (low high : ℤ) (fl : SFits w64 low) (fh : 
   new-rested =
       rw new-range (rested-new (suc (c .counter .0)) low high (nodesOf (t .keys) (t .values) (t .rows)) (S .well .sorted) (S .well .apart))
 
+  abbrev after : Open → Tables
+  after r = withTickets t (r .tickets) (r .coordinator)
+
   abbrev Goal : Open → Type 0
-  Goal r = Met t (O.openedTo t r) («open» low high) (ofOpened (r .answer))
+  Goal r = Met t (after r) («open» low high) (ofOpened (r .answer))
 
   counted : length (rangesOf cap (t .tickets) k) ≡ k
   counted = length-map (take k (t .tickets)) (rangeOf cap) ∙ length-take-le k (t .tickets) (omega (arith, S .lengths .tickets, S .few))
@@ -109,7 +113,7 @@ module _ (t : Tables) (S : Sound t) (low high : ℤ) (fl : SFits w64 low) (fh : 
       unfolding view
       begins l h =
           let few : k < length (t .tickets) = omega (arith, S .lengths .tickets) in
-          met t (O.openedTo t (O.opened (t .keys) (t .rows) (t .tickets) c low high)) («open» low high) (opened (c .counter .0 + 1)) S
+          met t (after (O.opened (t .keys) (t .rows) (t .tickets) c low high)) («open» low high) (opened (c .counter .0 + 1)) S
           (record {
             known = S .lengths .known;
             values = S .lengths .values;
@@ -123,7 +127,7 @@ module _ (t : Tables) (S : Sound t) (low high : ℤ) (fl : SFits w64 low) (fh : 
           ∙ rw (add-one k, ranges-opened cap (t .tickets) k fresh few, new-range, add-one (c .counter .0)))
 
   -- LAW: open meets the model
-  pub open-meets : Goal (O.openingOf t low high)
+  pub open-meets : Met t (O.openedTables t low high) («open» low high) (ofOpened (O.openingOf t low high .answer))
   unfolding O.opening
   open-meets = go (ltZ high low) (leb M.lastVersion (c .counter .0)) refl refl (decLt k 16)
     where

@@ -26,9 +26,10 @@ use Rattle.tables.specs.declared.Ticket.{Ticket}
 use Rattle.tables.specs.Tables.{Tables, capacityOf, Resting, Sound, Met, view, restOf, rangeOf, rangesOf, nodesOf}
 use Rattle.tables.proofs.Ranging.{ticketAt}
 use Rattle.tables.proofs.Meeting.{met, met-same}
-use Rattle.ranges.specs.Tickets.{indexOf}
+use Rattle.ranges.specs.declared.Step.{Step}
+use Rattle.ranges.specs.Tickets.{indexOf, withTickets}
 use Rattle.ranges.specs.Walk.{walkOf, stops, needed, handed, finished, restAfter, keysOf, valuesOf}
-use Rattle.ranges.specs.Step.{Case, refuse, at, stepping, stepNodes, restOn, stepEnd, roomOf, StepReady, steppedTo}
+use Rattle.ranges.specs.Step.{Case, refuse, at, stepping, stepNodes, restOn, stepEnd, roomOf, StepReady, stepGiven, SteppedBy, steppingOf, steppedTables}
 use Rattle.ranges.proofs.Mapping.{all-mapped}
 use Rattle.ranges.proofs.Tickets.{named-ticket, range-found, range-lost, all-at, all-set}
 use Rattle.ranges.proofs.Walking.{stops-nodes}
@@ -107,7 +108,7 @@ module _ (t : Tables) (S : Sound t) where
 
     abbrev Goal : Case → Type 0
     Goal c =
-        Met t (steppedTo t (stepEnd c (t .keys) (t .rows) (t .tickets) room .tickets)) (step v room)
+        Met t (withTickets t (stepEnd c (t .keys) (t .rows) (t .tickets) room .tickets) (t .coordinator)) (step v room)
         (ofStepped (written ks 0 (keysOf (t .keys) (nodes c))) (written vs 0 (valuesOf (t .values) (nodes c))) (stepEnd c (t .keys) (t .rows) (t .tickets) room .answer))
 
     none-found : k ≤ j → Goal (refuse 11)
@@ -135,7 +136,7 @@ module _ (t : Tables) (S : Sound t) where
     onward h z =
         let out = handed (t .keys) (t .rows) (walkOf T) room in
         let rest = restAfter (t .keys) (t .rows) (walkOf T) room in
-        met t (steppedTo t (set (t .tickets) j (restOn rest T))) (step v room)
+        met t (withTickets t (set (t .tickets) j (restOn rest T)) (t .coordinator)) (step v room)
         (ofStepped (written ks 0 (keysOf (t .keys) out)) (written vs 0 (valuesOf (t .values) out)) (stepEnd (at j) (t .keys) (t .rows) (t .tickets) room .answer)) S
         (record {
           known = S .lengths .known;
@@ -154,7 +155,9 @@ module _ (t : Tables) (S : Sound t) where
         ))))
 
     -- LAW: step meets the model
-    pub step-meets : Goal (stepping (t .tickets) k v room)
+    pub step-meets : Met t (steppedTables t v room) (step v room)
+        (ofStepped (written ks 0 (keysOf (t .keys) (stepGiven (t .keys) (t .rows) (t .tickets) k v room))) (written vs 0 (valuesOf (t .values) (stepGiven (t .keys) (t .rows) (t .tickets) k v room)))
+        (steppingOf t v room .answer))
     unfolding stepping
     step-meets = go (decLt j k) (ℕ-discrete room 0)
       where
@@ -162,3 +165,8 @@ module _ (t : Tables) (S : Sound t) where
         go (no h) d = rw (le-ltb j k (omega arith)) (none-found (omega arith))
         go (yes h) (yes z) = rw (lt-ltb j k h, eq-eqb room 0 z) (full h z)
         go (yes h) (no z) = rw (lt-ltb j k h, ne-eqb room 0 z) (onward h z)
+
+    -- LAW: so does whatever step_range comes to
+    pub step-outcome : (ks′ vs′ : List ℤ) (r : Step) → SteppedBy (t .keys) (t .values) (t .rows) (t .tickets) k v ks vs ks′ vs′ r
+        → Met t (withTickets t (r .tickets) (t .coordinator)) (step v room) (ofStepped ks′ vs′ (r .answer))
+    step-outcome ks′ vs′ r h = rw (h .end, h .keysOut, h .valuesOut) step-meets

@@ -34,7 +34,7 @@ use Rattle.tables.specs.Tables.{Tables, capacityOf, Resting, Sound, view, place
 use Rattle.tables.proofs.Viewing.{is-node}
 use Rattle.tables.proofs.Telling.{found-or-not, sound-capacity, sound-lowest, sound-rising}
 use Rattle.ranges.specs.Walk.{mayRest, Walk, walkOf, stops, needed, handed, finished, restAfter, keysOf, valuesOf, WalkReady}
-use Rattle.ranges.proofs.Mapping.{map-take, map-drop, map-empty, map-filter}
+use Rattle.ranges.proofs.Mapping.{map-take, map-drop, map-empty}
 use Rattle.ranges.proofs.Walking.{written-front, onward-end, Behind, behind, stops-nodes}
 
 -- ---- the pairs at the front of the buffers

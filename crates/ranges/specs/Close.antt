@@ -11,7 +11,7 @@ use Rattle.tables.specs.declared.Coordinator.{Coordinator}
 use Rattle.tables.specs.Tables.{Tables}
 use Rattle.tables.proofs.Ranging.{ticketAt, gained}
 use Rattle.ranges.specs.declared.Close.{Close}
-use Rattle.ranges.specs.Tickets.{indexOf, slide}
+use Rattle.ranges.specs.Tickets.{indexOf, slide, withTickets}
 
 -- one range fewer is open, and so many nodes are due
 abbrev pub fewer : Coordinator → ℕ → Coordinator
@@ -42,20 +42,9 @@ pub record CloseReady (ts : List Ticket) (c : Coordinator) : Type 0 where
   pub held : (i : ℕ) → i < c .ranges → ticketAt ts i .held ≤ 4096
   pub ripe : c .due ≤ 4096
 
--- the tables afterwards
-abbrev pub closedTo : Tables → Close → Tables
-closedTo t r =
-    record {
-      keys = t .keys;
-      values = t .values;
-      rows = t .rows;
-      buckets = t .buckets;
-      tickets = r .tickets;
-      coordinator = r .coordinator;
-    }
-
 abbrev pub closingOf : Tables → ℕ → Close
 closingOf t v = closing (t .tickets) (t .coordinator) v
 
+-- the tables afterwards
 abbrev pub closedTables : Tables → ℕ → Tables
-closedTables t v = closedTo t (closingOf t v)
+closedTables t v = withTickets t (closingOf t v .tickets) (closingOf t v .coordinator)

@@ -1,7 +1,7 @@
 -- Fast range: its answer, and the pairs that it hands out.
 -- Assumes nothing.
 use mathlib.Core.Path.{_≡_}
-use mathlib.Core.Bool.{Bool, true, false}
+use mathlib.Core.Bool.{cond}
 use mathlib.Core.List.{List, []}
 use Prim.Native.Nat.{ℕ, _+_}
 use lib.ListN.{length}
@@ -21,15 +21,11 @@ use Rattle.ranges.specs.Open.{newTicket}
 abbrev pub fastNodes : List ℕ → List ℕ → ℕ → ℤ → ℤ → List ℕ
 fastNodes keys rows counter low high = needed keys rows (walkOf (newTicket keys rows (counter + 1) low high))
 
-abbrev pub pickRanged : Bool → Ranged → Ranged → Ranged
-pickRanged true a b = a
-pickRanged false a b = b
-
 -- refused where the bounds cross, where the pairs are more than a fast range hands out, and where they are more than there is room for
 unfoldable pub fastAnswer : List ℕ → ℤ → ℤ → ℕ → Ranged
 fastAnswer nodes low high room =
-    pickRanged (ltZ high low) (Refused 6)
-    (pickRanged (ltb fastLimit (length nodes)) (Refused 7) (pickRanged (ltb room (length nodes)) (Refused 8) (Pairs (length nodes))))
+    cond (ltZ high low) (Refused 6)
+    (cond (ltb fastLimit (length nodes)) (Refused 7) (cond (ltb room (length nodes)) (Refused 8) (Pairs (length nodes))))
 
 -- the nodes whose pairs are handed out
 abbrev pub given : Ranged → List ℕ → List ℕ

@@ -1,6 +1,6 @@
 -- Open: its answer, and what it does to the tickets and the coordinator.
 -- Assumes nothing.
-use mathlib.Core.Bool.{Bool, true, false}
+use mathlib.Core.Bool.{true, cond}
 use mathlib.Core.List.{List}
 use Prim.Native.Nat.{ℕ, _+_}
 use lib.ListN.{length, set}
@@ -15,6 +15,7 @@ use Rattle.tables.specs.declared.Coordinator.{Coordinator}
 use Rattle.tables.specs.Tables.{Tables, version, node}
 use Rattle.finds.specs.Near.{nearOf}
 use Rattle.ranges.specs.declared.Open.{Open}
+use Rattle.ranges.specs.Tickets.{withTickets}
 
 -- the ticket of a range of version v that opens now: it rests on the first present node at or above the lower bound, or on the tail
 abbrev pub newTicket : List ℕ → List ℕ → ℕ → ℤ → ℤ → Ticket
@@ -26,10 +27,6 @@ newTicket keys rows v low high =
       rest = node (nearOf keys rows (length keys) (rankOf low) 0 true);
       held = 0;
     }
-
-abbrev pub pickOpen : Bool → Open → Open → Open
-pickOpen true a b = a
-pickOpen false a b = b
 
 abbrev pub openRefused : ℕ → List Ticket → Coordinator → Open
 openRefused n ts c = record { answer = Refused n; tickets = ts; coordinator = c }
@@ -46,21 +43,13 @@ opened keys rows ts c low high =
 -- refused where the bounds cross, where sixteen ranges are open, and where the counter is at the last version
 unfoldable pub opening : List ℕ → List ℕ → List Ticket → Coordinator → ℤ → ℤ → Open
 opening keys rows ts c low high =
-    pickOpen (ltZ high low) (openRefused 6 ts c)
-    (pickOpen (leb 16 (c .ranges)) (openRefused 9 ts c)
-    (pickOpen (leb lastVersion (c .counter .0)) (openRefused 10 ts c) (opened keys rows ts c low high)))
-
--- the tables afterwards
-abbrev pub openedTo : Tables → Open → Tables
-openedTo t r =
-    record {
-      keys = t .keys;
-      values = t .values;
-      rows = t .rows;
-      buckets = t .buckets;
-      tickets = r .tickets;
-      coordinator = r .coordinator;
-    }
+    cond (ltZ high low) (openRefused 6 ts c)
+    (cond (leb 16 (c .ranges)) (openRefused 9 ts c)
+    (cond (leb lastVersion (c .counter .0)) (openRefused 10 ts c) (opened keys rows ts c low high)))
 
 abbrev pub openingOf : Tables → ℤ → ℤ → Open
 openingOf t low high = opening (t .keys) (t .rows) (t .tickets) (t .coordinator) low high
+
+-- the tables afterwards
+abbrev pub openedTables : Tables → ℤ → ℤ → Tables
+openedTables t low high = withTickets t (openingOf t low high .tickets) (openingOf t low high .coordinator)

@@ -1,7 +1,7 @@
 -- Step: its answer, the pairs that it hands out, and where the ticket rests then.
 -- Assumes nothing.
 use mathlib.Core.Path.{_≡_}
-use mathlib.Core.Bool.{Bool, true, false}
+use mathlib.Core.Bool.{cond}
 use mathlib.Core.List.{List, []}
 use Prim.Native.Nat.{ℕ, _≤_, _<_, min}
 use lib.ListN.{length, set}
@@ -13,7 +13,7 @@ use Rattle.tables.specs.declared.Ticket.{Ticket}
 use Rattle.tables.specs.Tables.{Tables, node}
 use Rattle.tables.proofs.Ranging.{ticketAt}
 use Rattle.ranges.specs.declared.Step.{Step}
-use Rattle.ranges.specs.Tickets.{indexOf}
+use Rattle.ranges.specs.Tickets.{indexOf, withTickets}
 use Rattle.ranges.specs.Walk.{walkOf, handed, finished, restAfter, keysOf, valuesOf, WalkReady}
 
 -- refused with a number, or of the ticket at an index
@@ -21,13 +21,9 @@ pub data Case : Type 0 where
   refuse : ℕ → Case
   at : ℕ → Case
 
-abbrev pub pick : Bool → Case → Case → Case
-pick true a b = a
-pick false a b = b
-
 -- no open range of that version; no room; else the ticket found
 unfoldable pub stepping : List Ticket → ℕ → ℕ → ℕ → Case
-stepping ts k v room = pick (ltb (indexOf v k ts) k) (pick (eqb room 0) (refuse 8) (at (indexOf v k ts))) (refuse 11)
+stepping ts k v room = cond (ltb (indexOf v k ts) k) (cond (eqb room 0) (refuse 8) (at (indexOf v k ts))) (refuse 11)
 
 -- the nodes whose pairs are handed out
 abbrev pub stepNodes : Case → List ℕ → List ℕ → List Ticket → ℕ → List ℕ
@@ -55,22 +51,21 @@ pub record StepReady (keys : List ℕ) (values : List ℤ) (rows : List ℕ) (ts
 abbrev pub roomOf : List ℤ → List ℤ → ℕ
 roomOf ks vs = min (length ks) (length vs)
 
-abbrev pub steppingOf : List Ticket → ℕ → ℕ → List ℤ → List ℤ → Case
-steppingOf ts k v ks vs = stepping ts k v (roomOf ks vs)
+-- in all: the answer with the tickets, and the nodes handed out
+abbrev pub stepOf : List ℕ → List ℕ → List Ticket → ℕ → ℕ → ℕ → Step
+stepOf keys rows ts k v room = stepEnd (stepping ts k v room) keys rows ts room
+
+abbrev pub stepGiven : List ℕ → List ℕ → List Ticket → ℕ → ℕ → ℕ → List ℕ
+stepGiven keys rows ts k v room = stepNodes (stepping ts k v room) keys rows ts room
 
 pub record SteppedBy (keys : List ℕ) (values : List ℤ) (rows : List ℕ) (ts : List Ticket) (k v : ℕ) (ks vs ks′ vs′ : List ℤ) (r : Step) : Type 0 where
-  pub end : r ≡ stepEnd (steppingOf ts k v ks vs) keys rows ts (roomOf ks vs)
-  pub keysOut : ks′ ≡ written ks 0 (keysOf keys (stepNodes (steppingOf ts k v ks vs) keys rows ts (roomOf ks vs)))
-  pub valuesOut : vs′ ≡ written vs 0 (valuesOf values (stepNodes (steppingOf ts k v ks vs) keys rows ts (roomOf ks vs)))
+  pub end : r ≡ stepOf keys rows ts k v (roomOf ks vs)
+  pub keysOut : ks′ ≡ written ks 0 (keysOf keys (stepGiven keys rows ts k v (roomOf ks vs)))
+  pub valuesOut : vs′ ≡ written vs 0 (valuesOf values (stepGiven keys rows ts k v (roomOf ks vs)))
+
+abbrev pub steppingOf : Tables → ℕ → ℕ → Step
+steppingOf t v room = stepOf (t .keys) (t .rows) (t .tickets) (t .coordinator .ranges) v room
 
 -- the tables afterwards
-abbrev pub steppedTo : Tables → List Ticket → Tables
-steppedTo t ts =
-    record {
-      keys = t .keys;
-      values = t .values;
-      rows = t .rows;
-      buckets = t .buckets;
-      tickets = ts;
-      coordinator = t .coordinator;
-    }
+abbrev pub steppedTables : Tables → ℕ → ℕ → Tables
+steppedTables t v room = withTickets t (steppingOf t v room .tickets) (t .coordinator)

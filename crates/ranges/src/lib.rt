@@ -358,8 +358,8 @@ pub fn fast_range(
         return Ranged::Refused(6);
     }
     let rest = finds::near(keys, rows, buckets, sizes::rank(low), AFTER, true);
-    let mut found_keys = [0i64; 64];
-    let mut found_values = [0i64; 64];
+    let mut found_keys = [0i64; FAST];
+    let mut found_values = [0i64; FAST];
     let walked = walk_range(
         keys,
         values,

@@ -1,36 +1,29 @@
 -- What is tested comes to `Sound`, exactly.
 -- Assumes nothing.
 use mathlib.Core.Path.{_≡_, refl, sym, ap, _∙_}
-use mathlib.Core.Bool.{Bool}
-use mathlib.Core.List.{List, [], _∷_, map}
+use mathlib.Core.List.{List, map}
 use Prim.Native.Nat.{ℕ, _≤_, _<_, _+_, _*_}
 use native.Mathlib.Omega.{arith}
 use lib.ListN.{length, take, length-map, length-take}
-use lib.IntN.{ℤ}
-use Rattle.lists.specs.Holds.{All, Pairwise}
-use Rattle.lists.specs.Tests.{Says}
+use Rattle.lists.specs.Holds.{All}
 use Rattle.lists.proofs.Holding.{all-imp, all-imp₂, all-map, pairwise-image}
 use Rattle.lists.proofs.Indexing.{map-all, map-pairwise}
-use Rattle.lists.proofs.Answers.{over}
 use Rattle.sizes.proofs.Sizing.{size-rule}
-use Rattle.rows.specs.Rows.{places, removals}
+use Rattle.rows.specs.Rows.{places}
 use Rattle.levels.specs.Levels.{orderOf}
-use Rattle.levels.specs.Nearest.{Lowest}
 use Rattle.levels.specs.Test as L
-use Rattle.levels.proofs.Orders.{linked-lowest}
 use Rattle.places.specs.Places as P
 use Rattle.places.proofs.Lists.{free-length, ring-length}
 use Rattle.model.specs.Model as M
-use Rattle.model.specs.WellFormed.{WellFormed, Rested}
+use Rattle.model.specs.WellFormed.{Rested}
 use Rattle.tables.specs.declared.Ticket.{Ticket}
-use Rattle.tables.specs.declared.Coordinator.{Coordinator}
-use Rattle.tables.specs.Tables.{Tables, capacityOf, levelsOf, bucketsOf, nodeAt, rangeOf, rangesOf, view, Lengths, Used, Resting, Sound}
+use Rattle.tables.specs.Tables.{Tables, capacityOf, levelsOf, bucketsOf, nodeAt, rangeOf, view, Lengths, Used, Resting, Sound}
 use Rattle.tables.proofs.Capacities.{capacity, capacity-of}
-use Rattle.soundness.specs.Tested.{lent, Parts, Measured, Ready, Timed, Ordered, Rests, Earlier, Opened, Ringed, Listed, Nodes, Tested}
+use Rattle.soundness.specs.Tested.{Measured, Ready, Timed, Rests, Ringed, Tested}
 use Rattle.soundness.proofs.Shown.{line-sorted, line-dated, line-of, retired-same}
 use Rattle.soundness.proofs.Resting.{rests-resting, rests-rested, rested-rests}
-use Rattle.soundness.proofs.Segments.{InRing, listed-sum, listed-behind, behind-listed}
-use Rattle.soundness.proofs.Wells.{well-apart, well-tall, well-bounded, well-spare, well-unlinked, well-below, well-queued, well-single, filled, linked-in, ring-in, well-there}
+use Rattle.soundness.proofs.Segments.{listed-sum, listed-behind, behind-listed}
+use Rattle.soundness.proofs.Wells.{given, linked-in, ring-in, well-there}
 
 -- ---- lengths
 
@@ -100,6 +93,7 @@ module _ (t : Tables) where
       let u : All (λ n. Used (places (t .rows) n)) o = all-imp (Timed (t .rows) counter) (λ n. Used (places (t .rows) n)) (λ n h. h .used) o (w .nodes .line .timed) in
       let full = w .nodes .full in
       let ring = ring-in (t .keys) (t .values) (t .rows) cap (levelsOf cap) (w .linked) (w .seated) u full in
+      let rest = given (t .keys) (t .values) (t .rows) cap (levelsOf cap) (w .linked) (w .seated) u in
       record {
         lengths = w .lengths;
         memory = record { linked = w .linked; used = u; seated = w .seated; counted = w .counted };
@@ -109,16 +103,16 @@ module _ (t : Tables) where
         well =
             record {
               sorted = line-sorted (t .keys) (t .values) (t .rows) counter o (w .nodes .line);
-              apart = well-apart (t .keys) (t .values) (t .rows) cap (levelsOf cap) (w .linked) (w .seated) u;
+              apart = rest .apart;
               dated = line-dated (t .keys) (t .values) (t .rows) counter o (w .nodes .line);
-              tall = well-tall (t .keys) (t .values) (t .rows) cap (levelsOf cap) (w .linked) (w .seated) u;
-              bounded = well-bounded (t .keys) (t .values) (t .rows) cap (levelsOf cap) (w .linked) (w .seated) u;
-              spare = well-spare (t .keys) (t .values) (t .rows) cap (levelsOf cap) (w .linked) (w .seated) u;
-              unlinked = well-unlinked (t .keys) (t .values) (t .rows) cap (levelsOf cap) (w .linked) (w .seated) u;
-              below = well-below (t .keys) (t .values) (t .rows) cap (levelsOf cap) (w .linked) (w .seated) u;
+              tall = rest .tall;
+              bounded = rest .bounded;
+              spare = rest .spare;
+              unlinked = rest .unlinked;
+              below = rest .below;
               full = omega (arith, full, length-map o g, free-length (t .rows) cap);
-              queued = well-queued (t .keys) (t .values) (t .rows) cap (levelsOf cap) (w .linked) (w .seated) u;
-              single = well-single (t .keys) (t .values) (t .rows) cap (levelsOf cap) (w .linked) (w .seated) u;
+              queued = rest .queued;
+              single = rest .single;
               there = well-there (t .keys) (t .values) (t .rows) cap (levelsOf cap) (w .linked) (w .seated) u full;
               whole = retired-same (t .keys) (t .values) (t .rows) o u ∙ (w .nodes .whole ∙ sym (ring-length (t .rows) cap));
               listed = listed-sum (t .keys) (t .values) (t .rows) cap o (P.ringOf (t .rows) cap) (t .coordinator .due) open′ (w .listed);

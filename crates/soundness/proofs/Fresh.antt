@@ -1,10 +1,10 @@
 -- Set-up makes sound tables that show the model's state after set-up; a refusal leaves them as they were.
 -- Assumes nothing.
 use mathlib.Core.Path.{_≡_, refl, sym, ap, _∙_}
-use mathlib.Core.Bool.{Bool, true, false, cond, _&&_}
+use mathlib.Core.Bool.{Bool, true, false, cond}
 use mathlib.Core.List.{List, []}
 use mathlib.Core.Option.{some}
-use Prim.Native.Nat.{ℕ, _≤_, _<_, _+_, _*_}
+use Prim.Native.Nat.{ℕ, _<_, _+_, _*_}
 use native.Mathlib.Omega.{arith}
 use lib.ListN.{length, replicate, length-replicate}
 use lib.Dec.{eqb}
@@ -22,23 +22,22 @@ use Rattle.levels.specs.Levels.{orderOf, Linked}
 use Rattle.levels.specs.Stitch as L
 use Rattle.levels.proofs.Joining.{length-cleared, cleared-field}
 use Rattle.levels.proofs.Stitching.{clear-linked}
-use Rattle.places.specs.Places.{Sized, Places, Counted, freeOf, ringOf}
+use Rattle.places.specs.Places.{Sized, freeOf, ringOf}
 use Rattle.places.specs.Changes as P
 use Rattle.places.proofs.Clearing.{cleared-length, cleared-places, cleared-free, cleared-ring, cleared-kept}
 use Rattle.places.proofs.Counting.{cleared-counted}
 use Rattle.places.proofs.Frames.{Same, same-free, same-ring, same-counted, same-kept}
-use Rattle.buckets.specs.Buckets.{Buckets, Present, Room}
+use Rattle.buckets.specs.Buckets.{Buckets, Present}
 use Rattle.buckets.proofs.Keeping.{buckets-fresh}
 use Rattle.model.specs.declared.SetUp.{SetUp}
 use Rattle.model.specs.Model as M
-use Rattle.model.specs.WellFormed.{WellFormed}
 use Rattle.model.proofs.Order.{and-left, and-right}
 use Rattle.model.proofs.Reached.{well-fresh}
 use Rattle.tables.specs.declared.Ticket.{Ticket}
-use Rattle.tables.specs.Tables.{Tables, noTicket, levelsIn, levelsOf, bucketsIn, bucketsOf, view, Lengths, Memory, Sound}
+use Rattle.tables.specs.Tables.{Tables, noTicket, levelsIn, levelsOf, bucketsIn, bucketsOf, view, Memory, Sound}
 use Rattle.tables.proofs.Capacities.{capacity, capacity-of}
 use Rattle.soundness.specs.Tested.{lent, Parts}
-use Rattle.soundness.specs.SetUp.{freshRows, freshBuckets, freshTickets, freshCoordinator, freshTables, fits, answerIn, setUpAnswer, setUpTables, SetUpBy}
+use Rattle.soundness.specs.SetUp.{freshRows, freshBuckets, freshTickets, freshCoordinator, freshTables, fits, setUpAnswer, SetUpBy}
 
 -- ---- the rows
 

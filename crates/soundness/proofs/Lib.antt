@@ -1,3 +1,4 @@
+pub mod Versions
 pub mod Walking
 pub mod Tickets
 pub mod Ringing

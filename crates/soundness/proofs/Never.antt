@@ -1,17 +1,16 @@
 -- What is never sound; and that the test and set-up have one outcome each.
 -- Assumes nothing.
-use mathlib.Core.Path.{_≡_, refl, sym, ap, ap₂, _∙_, subst}
-use mathlib.Core.Logic.{_⊎_, _≢_, inl, inr, ⊎-elim}
+use mathlib.Core.Path.{_≡_, refl, sym, ap₂, _∙_}
+use mathlib.Core.Logic.{_≢_, ⊎-elim}
 use mathlib.Core.Bool.{Bool}
 use mathlib.Core.List.{List, [], _∷_, _++_, append-assoc}
 use Prim.Native.Nat.{ℕ, _+_, _-_, _<_, _≤_}
 use native.Mathlib.Omega.{arith}
-use lib.ListN.{getD}
 use lib.Dec.{ltb}
 use borrow.Author.Tests.{lt-ltb}
-use Rattle.lists.specs.Holds.{All, Pairwise}
+use Rattle.lists.specs.Holds.{All}
 use Rattle.lists.specs.Filters.{headOr}
-use Rattle.lists.specs.Members.{In, Distinct, Differ}
+use Rattle.lists.specs.Members.{In, Differ}
 use Rattle.lists.specs.Tests.{Says}
 use Rattle.lists.proofs.Comparing.{one-answer}
 use Rattle.lists.proofs.Holding.{all-imp, all-head, all-right, all-at, pairwise-right, pairwise-before}
@@ -19,7 +18,7 @@ use Rattle.lists.proofs.Filtering.{all-filter}
 use Rattle.lists.proofs.Splits.{all-in, in-split, split-filter, split-in, distinct-differ}
 use Rattle.sizes.specs.declared.Version.{Version}
 use Rattle.rows.specs.Rows.{heights, links}
-use Rattle.levels.specs.Levels.{Run, Leads, level, sentinel, orderOf, Linked}
+use Rattle.levels.specs.Levels.{Run, Leads, level, sentinel, orderOf}
 use Rattle.levels.proofs.Orders.{turned, turned-all, sentinel-high, run-in, link-run, neighbour}
 use Rattle.levels.proofs.Nearing.{in-turned}
 use Rattle.levels.proofs.Testing.{run-distinct}
@@ -27,7 +26,7 @@ use Rattle.buckets.proofs.Keeping.{present-on-chain}
 use Rattle.model.specs.declared.SetUp.{SetUp}
 use Rattle.tables.specs.Tables.{Tables, capacityOf, levelsOf, Sound}
 use Rattle.soundness.specs.Tested.{Ordered}
-use Rattle.soundness.specs.SetUp.{setUpAnswer, setUpTables, SetUpBy}
+use Rattle.soundness.specs.SetUp.{SetUpBy}
 use Rattle.soundness.specs.Never.{LinkPast, Circle, OutOfOrder, Missing}
 use Rattle.soundness.proofs.Deciding.{sound-tested}
 

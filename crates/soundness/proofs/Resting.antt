@@ -1,18 +1,18 @@
 -- A ticket's rest, by its cell, and where the model says that its range rests.
 -- Assumes nothing.
-use mathlib.Core.Path.{_≡_, refl, sym, ap, _∙_, subst}
+use mathlib.Core.Path.{_≡_, refl, sym, ap, _∙_}
 use mathlib.Core.Logic.{_⊎_, _≢_, inl, inr, ⊎-elim}
 use mathlib.Core.Bool.{Bool, true, false, cond, true≢false}
 use mathlib.Core.List.{List, [], _∷_, map}
-use Prim.Native.Nat.{ℕ, _≤_, _<_, _+_}
+use Prim.Native.Nat.{ℕ, _≤_, _<_}
 use native.Mathlib.Omega.{arith}
 use lib.ListN.{getD}
-use lib.Dec.{eqb, leb}
+use lib.Dec.{eqb}
 use lib.IntN.{ℤ}
 use lib.Signed.{leZ}
 use borrow.Author.Tests.{eqb-true, eq-eqb, leb-true, le-leb, lt-ltb, le-ltb}
 use Rattle.lists.specs.Holds.{All, Pairwise}
-use Rattle.lists.specs.Filters.{keep, filter}
+use Rattle.lists.specs.Filters.{filter}
 use Rattle.lists.specs.Members.{In}
 use Rattle.lists.proofs.Holding.{all-imp, all-map}
 use Rattle.lists.proofs.Filtering.{all-filter, filter-yes, filter-no}
@@ -24,7 +24,7 @@ use Rattle.model.specs.Model as M
 use Rattle.model.specs.WellFormed.{Rested}
 use Rattle.tables.specs.declared.Ticket.{Ticket}
 use Rattle.tables.specs.Tables.{nodeAt, rangeOf, Used, Resting}
-use Rattle.soundness.specs.Tested.{Ordered, Stands, Rests}
+use Rattle.soundness.specs.Tested.{Ordered, Rests}
 use Rattle.soundness.proofs.Shown.{may-rest, may-older, may-last}
 
 -- a rest on the tail is none on a node

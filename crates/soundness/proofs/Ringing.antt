@@ -1,15 +1,15 @@
 -- The ring of retired nodes, by the index of a node in it, and the lists in it.
 -- Assumes nothing.
 use mathlib.Core.Path.{_≡_, refl, sym, ap, _∙_}
-use mathlib.Core.Bool.{Bool}
+use mathlib.Core.Bool.{Bool, true, false, not}
 use mathlib.Core.List.{List, [], _∷_}
-use Prim.Native.Nat.{ℕ, zero, suc, _+_, _-_, _<_, _≤_}
+use Prim.Native.Nat.{ℕ, suc, _+_, _-_, _<_, _≤_}
 use native.Mathlib.Omega.{arith}
 use lib.ListN.{length, getD, take, drop, length-drop, length-take, drop-of-length-le}
 use lib.Seq.{getD-take, getD-drop, drop-cons, drop-drop}
 use Rattle.lists.specs.Holds.{All}
 use Rattle.lists.specs.Tests.{Says, Each}
-use Rattle.lists.proofs.Answers.{over}
+use Rattle.lists.proofs.Answers.{over, failed, passed}
 use Rattle.lists.proofs.Indexing.{each-all, all-each, tab-at}
 use Rattle.rows.specs.Rows.{rings}
 use Rattle.places.specs.Places.{Places, ringFront, ringCount, ringOf, queued, slot}
@@ -72,23 +72,28 @@ module _ (removal : ℕ → ℕ) (ring : List ℕ) (due : ℕ) (tickets : List T
           drop-cons (take n tickets) i noTicket (omega (arith, length-take n tickets))
           ∙ ap {B = List Ticket} (λ t. t ∷ drop (suc i) (take n tickets)) (getD-take n tickets i noTicket l)
 
-      -- what the lists have here
-      pub listing-here : Listed removal ring due (take n tickets)
-          → (size ≤ length ring - start) × All (λ m. removal m < ticketAt tickets i .version .0) (take size (drop start ring))
-      listing-here h = let p = rw next at (w .forth h) in (omega (arith, p .0, length-drop start ring), p .1)
+      here : Listed removal ring due (take n tickets) → (size ≤ length ring - start) × All (λ m. removal m < ticketAt tickets i .version .0) (take size (drop start ring))
+      here h = let p = rw next at (w .forth h) in (omega (arith, p .0, length-drop start ring), p .1)
 
-      -- LAW: one list further
-      pub listing-on : size ≤ length ring - start → All (λ m. removal m < ticketAt tickets i .version .0) (take size (drop start ring))
-          → Listing removal ring due tickets n (start + size) (ticketAt tickets i .held) (i + 1)
-      listing-on s a =
-          let e : i + 1 ≡ suc i = omega arith in
-          rw e
-          (record {
-            within = omega (arith, w .within);
-            below = omega arith;
-            back = λ h. w .back (rw next (omega (arith, length-drop start ring), a, rw (drop-drop size start ring) h));
-            forth = λ h. let p = rw next at (w .forth h) in rw (drop-drop size start ring) at (p .2);
-          })
+      -- what the lists have here
+      pub listing-room : Listed removal ring due (take n tickets) → size ≤ length ring - start
+      listing-room h = here h .0
+
+      module _ {r : Bool} (s : Says r (All (λ m. removal m < ticketAt tickets i .version .0) (take size (drop start ring)))) where
+        pub listing-bad : not r ≡ true → Listed removal ring due (take n tickets) → ⊥
+        listing-bad e h = failed s e (here h .1)
+
+        -- LAW: one list further
+        pub listing-on : not r ≡ false → size ≤ length ring - start → Listing removal ring due tickets n (start + size) (ticketAt tickets i .held) (i + 1)
+        listing-on f l′ =
+            let e : i + 1 ≡ suc i = omega arith in
+            rw e
+            (record {
+              within = omega (arith, w .within);
+              below = omega arith;
+              back = λ h. w .back (rw next (omega (arith, length-drop start ring), passed s f, rw (drop-drop size start ring) h));
+              forth = λ h. let p = rw next at (w .forth h) in rw (drop-drop size start ring) at (p .2);
+            })
 
     -- LAW: at the end the last list is what is left of the ring
     module _ (l : n ≤ i) where

@@ -1,15 +1,15 @@
 -- The walk along the lowest level: what is left to show from a node on, one node further, and the end.
 -- Assumes nothing.
 use mathlib.Core.Path.{_≡_, refl, sym, ap, _∙_}
-use mathlib.Core.Logic.{_⊎_, inl, inr, ⊎-elim}
+use mathlib.Core.Logic.{inr, ⊎-elim}
 use mathlib.Core.Bool.{Bool, true, false, cond}
 use mathlib.Core.List.{List, [], _∷_, _++_, append-assoc}
 use Prim.Native.Nat.{ℕ, _≤_, _<_, _+_}
 use native.Mathlib.Omega.{arith}
 use native.Mathlib.Decide.{decLt}
 use lib.ListN.{length}
-use Rattle.lists.specs.Filters.{keep, filter}
-use Rattle.lists.specs.Members.{In, Split}
+use Rattle.lists.specs.Filters.{filter}
+use Rattle.lists.specs.Members.{Split}
 use Rattle.lists.proofs.Splits.{in-split, pigeon}
 use Rattle.lists.proofs.Indexing.{pairwise-next}
 use Rattle.rows.specs.Rows.{links}

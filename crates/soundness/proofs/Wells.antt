@@ -1,10 +1,10 @@
 -- What the model asks of the linked nodes, the free nodes and the ring beyond what is tested: it follows from the levels, the places and the counts.
 -- Assumes nothing.
-use mathlib.Core.Path.{_≡_, refl, sym, ap, _∙_}
+use mathlib.Core.Path.{_≡_, refl, ap, _∙_}
 use mathlib.Core.Logic.{_≢_}
 use mathlib.Core.Bool.{Bool, true, false, true≢false}
 use mathlib.Core.List.{List, [], _∷_, map}
-use mathlib.Core.Option.{Option, some}
+use mathlib.Core.Option.{some}
 use Prim.Native.Nat.{ℕ, _≤_, _<_, _+_}
 use native.Mathlib.Omega.{arith}
 use lib.ListN.{length}
@@ -12,7 +12,7 @@ use lib.IntN.{ℤ}
 use borrow.Author.Tests.{ne-eqb, eqb-true}
 use Rattle.lists.specs.Holds.{All, Pairwise}
 use Rattle.lists.specs.Filters.{filter, first, empty}
-use Rattle.lists.specs.Members.{In, Distinct, Differ, Split}
+use Rattle.lists.specs.Members.{In, Distinct, Differ}
 use Rattle.lists.proofs.Holding.{all-imp, all-map, pairwise-image}
 use Rattle.lists.proofs.Indexing.{pairwise-weak}
 use Rattle.lists.proofs.Splits.{in-all, in-split, distinct-differ, differ-distinct}
@@ -25,12 +25,23 @@ use Rattle.places.proofs.Covering.{Filled, covered}
 use Rattle.model.specs.Model as M
 use Rattle.model.specs.WellFormed.{Apart, Differ as Differs, Tall, At, isRetired, linked}
 use Rattle.tables.specs.Tables.{nodeAt, Used}
-use Rattle.tables.proofs.Viewing.{is-node, shows}
+use Rattle.tables.proofs.Viewing.{shows}
 use Rattle.soundness.proofs.Segments.{InRing}
 
 -- two numbers that differ, as the model tests it
 differs : (xs : List ℕ) → Distinct xs → Pairwise Differs xs
 differs xs d = pairwise-weak Differ Differs (λ a b e. ne-eqb a b e) xs (distinct-differ xs d)
+
+-- what the model asks beyond what is tested; that the nodes of the ring are linked is `well-there` below
+pub record Given (order : List M.Node) (free ring : List ℕ) (cap levels : ℕ) : Type 0 where
+  pub apart : Pairwise Apart order
+  pub tall : All (Tall levels) order
+  pub bounded : All (λ (n : M.Node). n .number < cap) order
+  pub spare : Pairwise Differs free
+  pub unlinked : All (λ (i : ℕ). All (λ (n : M.Node). M.is i n ≡ false) order) free
+  pub below : All (λ (i : ℕ). i < cap) free
+  pub queued : All (λ (i : ℕ). At i (λ (n : M.Node). isRetired n ≡ true) order) ring
+  pub single : Pairwise Differs ring
 
 module _ (keys : List ℕ) (values : List ℤ) (rows : List ℕ) (cap levels : ℕ) (k : Linked rows cap levels) (P : Places rows cap)
     (u : All (λ n. Used (places rows n)) (orderOf rows cap)) where
@@ -40,52 +51,32 @@ module _ (keys : List ℕ) (values : List ℤ) (rows : List ℕ) (cap levels : �
   abbrev o : List ℕ
   o = orderOf rows cap
 
-  -- ---- the linked nodes
-
-  pub well-apart : Pairwise Apart (map g o)
+  -- LAW: the levels and the places give it
+  pub given : Given (map g o) (freeOf rows cap) (ringOf rows cap) cap levels
   unfolding nodeAt
-  well-apart = pairwise-image Apart g o (pairwise-weak Differ (λ a b. Apart (g a) (g b)) (λ a b e. ne-eqb a b e) o (k .distinct))
-
-  pub well-tall : All (Tall levels) (map g o)
-  unfolding nodeAt
-  well-tall =
-      all-map (Tall levels) g o
-      (all-imp (λ n. (0 < heights rows n) × (heights rows n ≤ levels)) (λ n. Tall levels (g n)) (λ n h. record { least = h .0; most = h .1 }) o (k .tall))
-
-  pub well-bounded : All (λ (n : M.Node). n .number < cap) (map g o)
-  unfolding nodeAt
-  well-bounded = all-map (λ (n : M.Node). n .number < cap) g o (k .nodes)
-
-  -- ---- the free nodes
-
-  pub well-spare : Pairwise Differs (freeOf rows cap)
-  well-spare = differs (freeOf rows cap) (free-distinct rows cap P)
-
-  pub well-unlinked : All (λ (i : ℕ). All (λ (n : M.Node). M.is i n ≡ false) (map g o)) (freeOf rows cap)
-  unfolding nodeAt
-  well-unlinked =
-      in-all (λ (i : ℕ). All (λ (n : M.Node). M.is i n ≡ false) (map g o)) (freeOf rows cap)
-      (λ i j.
-      all-map (λ (n : M.Node). M.is i n ≡ false) g o
-      (all-imp (λ n. Used (places rows n)) (λ n. M.is i (g n) ≡ false)
-      (λ n h. ne-eqb n i (λ e. let z : places rows n ≡ 0 = rw e (in-free rows cap P i j .1) in omega arith)) o u))
-
-  pub well-below : All (λ (i : ℕ). i < cap) (freeOf rows cap)
-  well-below = in-all (λ (i : ℕ). i < cap) (freeOf rows cap) (λ i j. in-free rows cap P i j .0)
-
-  -- ---- the ring
-
-  pub well-queued : All (λ (i : ℕ). At i (λ (n : M.Node). isRetired n ≡ true) (map g o)) (ringOf rows cap)
-  unfolding nodeAt
-  well-queued =
-      in-all (λ (i : ℕ). At i (λ (n : M.Node). isRetired n ≡ true) (map g o)) (ringOf rows cap)
-      (λ i j.
-      all-map (λ (n : M.Node). M.is i n ≡ true → isRetired n ≡ true) g o
-      (all-imp (λ n. n < cap) (λ n. M.is i (g n) ≡ true → isRetired (g n) ≡ true)
-      (λ n l e. let z : places rows n ≡ 3 = rw (eqb-true n i e) (in-ring rows cap P i j .1) in rw z) o (k .nodes)))
-
-  pub well-single : Pairwise Differs (ringOf rows cap)
-  well-single = differs (ringOf rows cap) (ring-distinct rows cap P)
+  given =
+      record {
+        apart = pairwise-image Apart g o (pairwise-weak Differ (λ a b. Apart (g a) (g b)) (λ a b e. ne-eqb a b e) o (k .distinct));
+        tall =
+            all-map (Tall levels) g o
+            (all-imp (λ n. (0 < heights rows n) × (heights rows n ≤ levels)) (λ n. Tall levels (g n)) (λ n h. record { least = h .0; most = h .1 }) o (k .tall));
+        bounded = all-map (λ (n : M.Node). n .number < cap) g o (k .nodes);
+        spare = differs (freeOf rows cap) (free-distinct rows cap P);
+        unlinked =
+            in-all (λ (i : ℕ). All (λ (n : M.Node). M.is i n ≡ false) (map g o)) (freeOf rows cap)
+            (λ i j.
+            all-map (λ (n : M.Node). M.is i n ≡ false) g o
+            (all-imp (λ n. Used (places rows n)) (λ n. M.is i (g n) ≡ false)
+            (λ n h. ne-eqb n i (λ e. let z : places rows n ≡ 0 = rw e (in-free rows cap P i j .1) in omega arith)) o u));
+        below = in-all (λ (i : ℕ). i < cap) (freeOf rows cap) (λ i j. in-free rows cap P i j .0);
+        queued =
+            in-all (λ (i : ℕ). At i (λ (n : M.Node). isRetired n ≡ true) (map g o)) (ringOf rows cap)
+            (λ i j.
+            all-map (λ (n : M.Node). M.is i n ≡ true → isRetired n ≡ true) g o
+            (all-imp (λ n. n < cap) (λ n. M.is i (g n) ≡ true → isRetired (g n) ≡ true)
+            (λ n l e. let z : places rows n ≡ 3 = rw (eqb-true n i e) (in-ring rows cap P i j .1) in rw z) o (k .nodes)));
+        single = differs (ringOf rows cap) (ring-distinct rows cap P);
+      }
 
   -- ---- where linked and free nodes are all
 

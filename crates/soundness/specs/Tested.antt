@@ -15,7 +15,6 @@ use Rattle.sizes.specs.declared.Sized.the-variants.{Of}
 use Rattle.sizes.specs.Sizes.{sizeOf}
 use Rattle.rows.specs.Rows.{insertions, removals, places}
 use Rattle.levels.specs.Levels.{orderOf, Linked}
-use Rattle.levels.specs.Nearest.{Lowest}
 use Rattle.buckets.specs.Buckets.{Buckets}
 use Rattle.places.specs.Places.{Places, Counted, freeCount, ringCount, ringOf}
 use Rattle.tables.specs.declared.Ticket.{Ticket}
@@ -66,6 +65,7 @@ pub record Line (keys rows : List ℕ) (counter : ℕ) (nodes : List ℕ) : Type
   pub timed : All (Timed rows counter) nodes
   pub ordered : Pairwise (Ordered keys rows) nodes
 
+-- its mark says that it is retired
 abbrev pub isRetired : List ℕ → ℕ → Bool
 isRetired rows n = eqb (places rows n) 3
 
@@ -89,6 +89,7 @@ pub record Stands (keys rows : List ℕ) (cap : ℕ) (t : Ticket) : Type 0 where
 abbrev pub Rests : List ℕ → List ℕ → ℕ → Ticket → Type 0
 Rests keys rows cap t = (t .rest .0 ≡ cap + 1) ⊎ Stands keys rows cap t
 
+-- by their versions
 abbrev pub Earlier : Ticket → Ticket → Type 0
 Earlier s t = s .version .0 < t .version .0
 

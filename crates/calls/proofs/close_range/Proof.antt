@@ -2,7 +2,7 @@
 -- Assumes nothing.
 use mathlib.Core.Path.{_≡_, refl, ap, ap₂, _∙_}
 use Rattle.ranges.specs.declared.Close.{Close}
-use Rattle.ranges.specs.Close.{closedTo}
+use Rattle.ranges.specs.Tickets.{withTickets}
 use Rattle.ranges.proofs.CloseLaw.{close-ready, close-meets}
 use denote.Ref.{now}
 use Rattle.lists.proofs.Answers.{passed}
@@ -35,7 +35,7 @@ returns-2 c =
     let t = (lent (now (a .keys)) (now (a .values)) (now (a .rows)) (now (a .buckets)) (a .tickets) (a .coordinator)) in
     let S = passed (c .before .before .sound .ensures) (c .before .if1 .left) in
     let e = c .close-range .ensures in
-    making (c .before .before .sound .ensures) (c .before .if1 .left) (ap (closedTo t) e) (ap (λ (r : Close). r .answer) e) (close-meets t S (a .version .0))
+    making (c .before .before .sound .ensures) (c .before .if1 .left) (ap (λ (r : Close). withTickets t (r .tickets) (r .coordinator)) e) (ap (λ (r : Close). r .answer) e) (close-meets t S (a .version .0))
 
 pub close-range-spec : {M : Type 1} → statement M
 close-range-spec = tie.close (tie.spec sound-requires returns close-range-requires returns-2)

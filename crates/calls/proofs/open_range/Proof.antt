@@ -4,7 +4,7 @@ use mathlib.Core.Path.{_≡_, refl, ap, ap₂, _∙_}
 use mir.Syntax.{w64}
 use mir.ValLaws.{toZ-ofZ}
 use Rattle.ranges.specs.declared.Open.{Open}
-use Rattle.ranges.specs.Open.{openedTo}
+use Rattle.ranges.specs.Tickets.{withTickets}
 use Rattle.ranges.proofs.OpenLaw.{open-ready, open-meets}
 use denote.Ref.{now}
 use Rattle.lists.proofs.Answers.{passed}
@@ -38,7 +38,7 @@ returns-2 c =
     let t = (lent (now (a .keys)) (now (a .values)) (now (a .rows)) (now (a .buckets)) (a .tickets) (a .coordinator)) in
     let S = passed (c .before .before .sound .ensures) (c .before .if1 .left) in
     let e = rw (toZ-ofZ w64 (a .low) (st .fits .low), toZ-ofZ w64 (a .high) (st .fits .high)) at (c .open-range .ensures) in
-    making (c .before .before .sound .ensures) (c .before .if1 .left) (ap (openedTo t) e) (ap (λ (r : Open). r .answer) e) (open-meets t S (a .low) (a .high) (st .fits .low) (st .fits .high))
+    making (c .before .before .sound .ensures) (c .before .if1 .left) (ap (λ (r : Open). withTickets t (r .tickets) (r .coordinator)) e) (ap (λ (r : Open). r .answer) e) (open-meets t S (a .low) (a .high) (st .fits .low) (st .fits .high))
 
 pub open-range-spec : {M : Type 1} → statement M
 open-range-spec = tie.close (tie.spec sound-requires returns open-range-requires returns-2)

@@ -2,7 +2,6 @@
 -- Assumes nothing.
 use mathlib.Core.Path.{_≡_, refl, ap, ap₂, _∙_}
 use Rattle.ranges.specs.declared.Step.{Step}
-use Rattle.ranges.specs.Step.{steppedTo}
 use Rattle.calls.specs.Entries.{with}
 use Rattle.ranges.proofs.StepLaw.{step-ready, step-meets}
 use denote.Ref.{now}

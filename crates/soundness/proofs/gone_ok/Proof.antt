@@ -1,20 +1,16 @@
 -- `soundness::gone_ok` meets its contract. The invariant: the nodes passed were removed before the version.
 -- Assumes nothing.
-use mathlib.Core.Path.{_≡_, ap}
-use Prim.Native.Nat.{ℕ, _+_, _-_, _<_, _≤_}
+use Prim.Native.Nat.{_+_, _-_, _<_, _≤_}
 use native.Mathlib.Omega.{arith}
 use lib.ListN.{getD}
 use Rattle.lists.specs.Tests.{Each}
 use Rattle.lists.proofs.Answers.{none-yet, one-more, all-no, all-yes}
 use Rattle.rows.specs.Rows.{removals}
-use Rattle.sizes.specs.declared.Version.{Version}
 use Rattle.places.specs.Places.{ringOf}
 use Rattle.soundness.proofs.Ringing.{list-says}
+use Rattle.soundness.proofs.Versions.{numbered}
 use Rattle.soundness.proofs.gone_ok.Statement.{statement}
 use Rattle.soundness.proofs.gone_ok.Tie as tie
-
-abbrev number : Version → ℕ
-number v = v .0
 
 abbrev Inv-loop : tie.InvT-loop
 Inv-loop rows cap start size version i₀ i = (i ≤ size) × Each i (λ k. removals rows (getD (ringOf rows cap) (start + k) 0) < version .0)
@@ -38,7 +34,7 @@ returns : tie.Need-returns Inv-loop μ-loop
 returns c =
     let st = c .before .before .before .before .before .before .before .before in
     list-says _ _ _ _ _ (st .pre .1)
-    (all-no _ (c .before .before .before .before .before .loop-test .taken) (λ h. omega (arith, h, ap number (rw (c .before .before .before .before .ring-node .ensures .0) at (c .before .before .before .removed .ensures)), c .if1 .taken)))
+    (all-no _ (c .before .before .before .before .before .loop-test .taken) (λ h. omega (arith, h, numbered (rw (c .before .before .before .before .ring-node .ensures .0) at (c .before .before .before .removed .ensures)), c .if1 .taken)))
 
 add-i : tie.Need-add-i Inv-loop μ-loop
 add-i c = omega arith
@@ -48,7 +44,7 @@ loop-less c = omega arith
 
 loop-again : tie.Need-loop-again Inv-loop μ-loop
 loop-again c =
-    (omega arith, one-more _ (c .before .before .before .before .before .before .loop .inv .1) (omega (arith, ap number (rw (c .before .before .before .before .ring-node .ensures .0) at (c .before .before .before .removed .ensures)), c .if1 .left)))
+    (omega arith, one-more _ (c .before .before .before .before .before .before .loop .inv .1) (omega (arith, numbered (rw (c .before .before .before .before .ring-node .ensures .0) at (c .before .before .before .removed .ensures)), c .if1 .left)))
 
 returns-2 : tie.Need-returns-2 Inv-loop μ-loop
 returns-2 c =

@@ -1,16 +1,16 @@
 -- `soundness::lists_ok` meets its contract. The invariant: the ring is so listed exactly when what is left of it is.
 -- Assumes nothing.
 use mathlib.Core.Path.{_≡_, sym, _∙_}
-use Prim.Native.Nat.{_+_, _-_, _≤_}
+use Prim.Native.Nat.{_-_}
 use native.Mathlib.Omega.{arith}
 use lib.ListN.{length}
 use borrow.Author.Needs.{needs}
-use Rattle.lists.proofs.Answers.{no, failed, passed}
+use Rattle.lists.proofs.Answers.{no}
 use Rattle.lists.proofs.Comparing.{says-eq}
 use Rattle.rows.specs.Rows.{removals}
 use Rattle.places.specs.Places.{ringOf}
 use Rattle.places.proofs.Lists.{ring-length}
-use Rattle.soundness.proofs.Ringing.{Listing, listing-start, listing-here, listing-on, listed-all, listed-last}
+use Rattle.soundness.proofs.Ringing.{Listing, listing-start, listing-room, listing-bad, listing-on, listed-all, listed-last}
 use Rattle.soundness.proofs.lists_ok.Statement.{statement}
 use Rattle.soundness.proofs.lists_ok.Tie as tie
 
@@ -36,7 +36,7 @@ sub-if1 c = omega (arith, c .before .loop .inv .1, c .before .loop .inv .2 .with
 returns : tie.Need-returns Inv-loop μ-loop
 returns c =
     let v = c .before .before .loop .inv in
-    no (λ L. omega (arith, listing-here _ _ _ _ _ (v .0) (c .before .before .before .before .before .pre .1) _ _ _ (v .2) (c .before .loop-test .taken) L .0, v .1, c .if1 .taken))
+    no (λ L. omega (arith, listing-room _ _ _ _ _ (v .0) (c .before .before .before .before .before .pre .1) _ _ _ (v .2) (c .before .loop-test .taken) L, v .1, c .if1 .taken))
 
 mul-ticket : tie.Need-mul-ticket Inv-loop μ-loop
 mul-ticket c = omega arith
@@ -50,7 +50,7 @@ gone-ok-requires c κs = (c .before .before .before .before .before .before .bef
 returns-2 : tie.Need-returns-2 Inv-loop μ-loop
 returns-2 c =
     let v = c .before .before .before .before .before .before .loop .inv in
-    no (λ L. failed (c .before .gone-ok .ensures) (c .if2 .taken) (listing-here _ _ _ _ _ (v .0) (c .before .before .before .before .before .before .before .before .before .pre .1) _ _ _ (v .2) (c .before .before .before .before .before .loop-test .taken) L .1))
+    no (listing-bad _ _ _ _ _ (v .0) (c .before .before .before .before .before .before .before .before .before .pre .1) _ _ _ (v .2) (c .before .before .before .before .before .loop-test .taken) (c .before .gone-ok .ensures) (c .if2 .taken))
 
 add-start : tie.Need-add-start Inv-loop μ-loop
 add-start c = omega (arith, c .before .before .before .before .before .before .loop .inv .1, c .before .before .before .before .before .before .loop .inv .2 .within, c .before .before .before .before .if1 .left, c .before .before .before .before .before .before .before .cell .ensures, c .before .before .before .before .before .before .before .before .before .pre .0 .seated .few, c .before .before .before .before .before .before .before .before .before .pre .0 .small)
@@ -64,7 +64,7 @@ loop-less c = omega arith
 loop-again : tie.Need-loop-again Inv-loop μ-loop
 loop-again c =
     let v = c .before .before .before .before .before .before .loop .inv in
-    (v .0, v .1, listing-on _ _ _ _ _ (v .0) (c .before .before .before .before .before .before .before .before .before .pre .1) _ _ _ (v .2) (c .before .before .before .before .before .loop-test .taken) (rw (v .1) at (c .before .before .before .before .if1 .left)) (passed (c .before .gone-ok .ensures) (c .if2 .left)))
+    (v .0, v .1, listing-on _ _ _ _ _ (v .0) (c .before .before .before .before .before .before .before .before .before .pre .1) _ _ _ (v .2) (c .before .before .before .before .before .loop-test .taken) (c .before .gone-ok .ensures) (c .if2 .left) (rw (v .1) at (c .before .before .before .before .if1 .left)))
 
 sub-result : tie.Need-sub-result Inv-loop μ-loop
 sub-result c = omega (arith, c .before .loop .inv .1, c .before .loop .inv .2 .within)

@@ -1,6 +1,6 @@
 -- `soundness::nodes_ok` meets its contract. The invariant: the level is a line exactly when what lies onward is. The measure is what lies onward.
 -- Assumes nothing.
-use mathlib.Core.Path.{_≡_, sym, _∙_}
+use mathlib.Core.Path.{sym, _∙_}
 use mathlib.Core.Bool.{true, false}
 use native.Mathlib.Omega.{arith}
 use lib.ListN.{length}

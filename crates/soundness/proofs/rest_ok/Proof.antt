@@ -1,20 +1,16 @@
 -- `soundness::rest_ok` meets its contract.
 -- Assumes nothing.
-use mathlib.Core.Path.{_≡_, sym, ap, _∙_}
+use mathlib.Core.Path.{sym, _∙_}
 use mathlib.Core.Logic.{_⊎_, inl, inr, ⊎-elim}
 use mathlib.Core.Bool.{false}
-use Prim.Native.Nat.{ℕ}
 use native.Mathlib.Omega.{arith}
 use borrow.Author.Needs.{needs}
 use Rattle.lists.specs.Tests.{Says}
 use Rattle.lists.proofs.Answers.{no, yes! }
 use Rattle.lists.proofs.Comparing.{says-le}
-use Rattle.sizes.specs.declared.Version.{Version}
+use Rattle.soundness.proofs.Versions.{numbered}
 use Rattle.soundness.proofs.rest_ok.Statement.{statement}
 use Rattle.soundness.proofs.rest_ok.Tie as tie
-
-abbrev number : Version → ℕ
-number v = v .0
 
 neither : {P Q : Type 0} → (P → ⊥) → (Q → ⊥) → Says false (P ⊎ Q)
 neither f g = no (λ r. ⊎-elim f g r)
@@ -38,7 +34,7 @@ inserted-requires : tie.Need-inserted-requires
 inserted-requires c κs = search needs
 
 returns-4 : tie.Need-returns-4
-returns-4 c = neither (c .before .before .before .before .before .before .before .before .if1 .left) (λ S. omega (arith, S .older, ap number (c .before .before .before .inserted .ensures), c .if4 .taken))
+returns-4 c = neither (c .before .before .before .before .before .before .before .before .if1 .left) (λ S. omega (arith, S .older, numbered (c .before .before .before .inserted .ensures), c .if4 .taken))
 
 wide-requires : tie.Need-wide-requires
 wide-requires c κs = search needs
@@ -59,7 +55,7 @@ returns-6 c =
     (record {
       node = c .before .before .before .before .before .before .before .before .before .before .before .before .if2 .left;
       linked = λ e. c .before .before .before .before .before .before .before .before .before .before .if3 .left (c .before .before .before .before .before .before .before .before .before .before .before .cell .ensures ∙ e);
-      older = omega (arith, ap number (c .before .before .before .before .before .before .before .before .inserted .ensures), c .before .before .before .before .before .if4 .left);
+      older = omega (arith, numbered (c .before .before .before .before .before .before .before .before .inserted .ensures), c .before .before .before .before .before .if4 .left);
       lasts = λ d. absurd (d (sym (c .before .before .before .before .before .before .before .before .before .before .before .cell .ensures) ∙ c .if6 .taken));
       above = rw (c .before .before .before .before .wide .ensures) at (c .before .if5 .left);
     }))
@@ -69,14 +65,14 @@ removed-requires c κs = search needs
 
 returns-7 : tie.Need-returns-7
 returns-7 c =
-    rw (ap number (c .before .before .removed .ensures))
+    rw (numbered (c .before .before .removed .ensures))
     (says-le
     (λ e.
     inr
     (record {
       node = c .before .before .before .before .before .before .before .before .before .before .before .before .before .before .before .if2 .left;
       linked = λ z. c .before .before .before .before .before .before .before .before .before .before .before .before .before .if3 .left (c .before .before .before .before .before .before .before .before .before .before .before .before .before .before .cell .ensures ∙ z);
-      older = omega (arith, ap number (c .before .before .before .before .before .before .before .before .before .before .before .inserted .ensures), c .before .before .before .before .before .before .before .before .if4 .left);
+      older = omega (arith, numbered (c .before .before .before .before .before .before .before .before .before .before .before .inserted .ensures), c .before .before .before .before .before .before .before .before .if4 .left);
       lasts = λ d. e;
       above = rw (c .before .before .before .before .before .before .before .wide .ensures) at (c .before .before .before .before .if5 .left);
     }))

@@ -1,6 +1,5 @@
 -- `soundness::sound` meets its contract: each part tests what it says, and all of it comes to `Sound`.
 -- Assumes nothing.
-use mathlib.Core.Path.{_≡_}
 use native.Mathlib.Omega.{arith}
 use borrow.Author.Needs.{needs}
 use denote.Ref.{now}
