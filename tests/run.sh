@@ -1,13 +1,15 @@
 #!/usr/bin/env bash
 # Builds the second program, runs its tests, sees what a corpus of schedule files reaches and, once
-# the program `schedule` is built, compares both programs over that corpus. The last line is
-# `N passed, M failed`; a step that breaks counts as failed. Exits with 0 exactly when M is 0.
+# the program `schedule` is built, compares both programs over that corpus. Once the program `damage`
+# is built, compares its verdicts on damaged tables with those of the second program. The last line
+# is `N passed, M failed`; a step that breaks counts as failed. Exits with 0 exactly when M is 0.
 set -u
 cd "$(dirname "$0")/.." || exit 1
 
 export CARGO_TARGET_DIR="$PWD/target/second"
 programs="$CARGO_TARGET_DIR/release"
 schedule="target/bin/schedule"
+damage="target/bin/damage"
 corpus_size=2200
 corpus_seed=1
 # No program may take longer for the whole corpus.
@@ -100,6 +102,20 @@ compare_schedule() {
   [ "$differing" -eq 0 ] && passed=$((passed + 1))
 }
 
+# Every cell of sound tables is damaged in turn: both programs must judge each the same.
+compare_verdicts() {
+  if [ ! -x "$damage" ]; then
+    echo "$damage is not built yet: nothing to compare"
+    return
+  fi
+  if printf a | timeout "$most_seconds" "$damage" >"$work/verdicts.txt" &&
+    "$programs/verdicts" <"$work/verdicts.txt"; then
+    passed=$((passed + 1))
+  else
+    fail "the verdicts on damaged tables differ"
+  fi
+}
+
 if ! second_cargo build; then
   fail "the second program does not build"
   finish
@@ -111,4 +127,5 @@ if make_corpus; then
 else
   fail "the corpus could not be written"
 fi
+compare_verdicts
 finish

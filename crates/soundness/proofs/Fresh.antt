@@ -3,7 +3,7 @@
 use mathlib.Core.Path.{_≡_, refl, sym, ap, _∙_}
 use mathlib.Core.Bool.{Bool, true, false, cond}
 use mathlib.Core.List.{List, []}
-use mathlib.Core.Option.{some}
+use mathlib.Core.Option.{none, some}
 use Prim.Native.Nat.{ℕ, _<_, _+_, _*_}
 use native.Mathlib.Omega.{arith}
 use lib.ListN.{length, replicate, length-replicate}
@@ -14,6 +14,7 @@ use Rattle.lists.specs.Tests.{Says}
 use Rattle.lists.proofs.Comparing.{one-answer}
 use Rattle.sizes.specs.declared.Version.{Version}
 use Rattle.sizes.specs.declared.Size.{Size}
+use Rattle.sizes.specs.declared.Sized.{Sized as Known}
 use Rattle.sizes.specs.declared.Sized.the-variants.{Of, Nothing}
 use Rattle.sizes.specs.Sizes.{sizeOf}
 use Rattle.sizes.proofs.Sizing.{size-rule}
@@ -37,7 +38,7 @@ use Rattle.tables.specs.declared.Ticket.{Ticket}
 use Rattle.tables.specs.Tables.{Tables, noTicket, levelsIn, levelsOf, bucketsIn, bucketsOf, view, Memory, Sound}
 use Rattle.tables.proofs.Capacities.{capacity, capacity-of}
 use Rattle.soundness.specs.Tested.{lent, Parts}
-use Rattle.soundness.specs.SetUp.{freshRows, freshBuckets, freshTickets, freshCoordinator, freshTables, fits, setUpAnswer, SetUpBy}
+use Rattle.soundness.specs.SetUp.{freshRows, freshBuckets, freshTickets, freshCoordinator, freshTables, fits, answerIn, setUpAnswer, SetUpBy}
 
 -- ---- the rows
 
@@ -173,6 +174,27 @@ fits-says s t =
 -- a refusal is not done
 refused-done : {A : Type 0} (n : ℕ) → SetUp.Refused n ≡ SetUp.Done → A
 refused-done n e = let z : _≡_ {A = ℕ} 0 1 = cc in absurd (omega arith)
+
+-- LAW: refused with 2 exactly where the model's set-up gives no state
+pub unknown-model : (t : Tables) (cap start : ℕ) → setUpAnswer t cap ≡ SetUp.Refused 2 → M.setUp cap start ≡ none
+unfolding setUpAnswer M.setUp
+unknown-model t cap start e = go (sizeOf cap) e
+  where
+    other : (b : Bool) → cond b SetUp.Done (SetUp.Refused 1) ≡ SetUp.Refused 2 → ⊥
+    other true f = refused-done 2 (sym f)
+    other false f = let z : _≡_ {A = ℕ} 1 2 = cc in omega arith
+
+    go : (z : Known) → answerIn z t ≡ SetUp.Refused 2 → M.freshOf start z ≡ none
+    go Nothing f = refl
+    go (Of s) f = absurd (other (fits s t) f)
+
+pub model-unknown : (t : Tables) (cap start : ℕ) → M.setUp cap start ≡ none → setUpAnswer t cap ≡ SetUp.Refused 2
+unfolding setUpAnswer M.setUp
+model-unknown t cap start e = go (sizeOf cap) e
+  where
+    go : (z : Known) → M.freshOf start z ≡ none → answerIn z t ≡ SetUp.Refused 2
+    go Nothing f = refl
+    go (Of s) f = let z : _≡_ {A = ℕ} 0 1 = cc in absurd (omega arith)
 
 module _ (t : Tables) (cap : ℕ) (start : Version) where
   refused : (n : ℕ) → setUpAnswer t cap ≡ SetUp.Refused n → SetUpBy t t cap start (SetUp.Refused n)

@@ -2,7 +2,8 @@
 //!
 //! `map` is the map with its ranges in plain lists, `number`, `transaction` and `reader` are the
 //! schedule file, `program` turns a file into lines. `generator` writes files to try the program
-//! on, and `coverage` tells which cases a set of files reaches.
+//! on, and `coverage` tells which cases a set of files reaches. `tables` is a check of its own
+//! whether raw tables are sound, and `verdicts` holds it against the verdicts of `damage`.
 
 pub mod coverage;
 pub mod generator;
@@ -11,4 +12,6 @@ pub mod number;
 pub mod program;
 pub mod random;
 pub mod reader;
+pub mod tables;
 pub mod transaction;
+pub mod verdicts;
