@@ -139,7 +139,7 @@ const STEPS: [Step; 16] = [
     },
     Step {
         kind: OPEN,
-        from: 9,
+        from: 8,
         to: TAIL,
     },
     Step {
