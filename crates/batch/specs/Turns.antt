@@ -1,0 +1,127 @@
+-- One call of a list: what it asks of the model, and what it does to sound tables and to the places of the pair buffers that it is lent.
+-- Assumes nothing.
+use mathlib.Core.Path.{_≡_}
+use mathlib.Core.List.{List, [], map}
+use Prim.Native.Nat.{ℕ, min, _≤_}
+use lib.ListN.{length}
+use lib.IntN.{ℤ}
+use Rattle.lists.specs.Buffers.{written}
+use Rattle.transactions.specs.declared.Call.{Call}
+use Rattle.transactions.specs.declared.Call.the-variants.{Lookup, Insert, Remove, HandOver, Ceil, Floor, Succ, Pred, Fast, Open, Step, Close, Sweep, Tally}
+use Rattle.model.specs.Plain.{Pair}
+use Rattle.model.specs.Calls as C
+use Rattle.model.specs.Model as M
+use Rattle.tables.specs.Tables.{Tables, Met, view}
+use Rattle.model.specs.Answers.{ofHanded, ofRanged, ofOpened, ofStepped, ofClosed, ofSwept}
+use Rattle.model.specs.declared.Handed.{Handed}
+use Rattle.model.specs.declared.Ranged.{Ranged}
+use Rattle.returns.specs.HandOver.{handingOf, handedTables, handedRows, handedTickets}
+use Rattle.returns.specs.Sweep.{sweeping, sweptRows, sweptDue, withDue, sweptTables}
+use Rattle.ranges.specs.declared.Open as O
+use Rattle.ranges.specs.declared.Close as S
+use Rattle.changes.specs.Insert.{insertTables}
+use Rattle.changes.specs.Remove.{removeTables}
+use Rattle.ranges.specs.Fast.{RangedBy}
+use Rattle.ranges.specs.Open.{openedTables}
+use Rattle.ranges.specs.Step.{stepping, stepEnd, stepNodes, steppedTables}
+use Rattle.ranges.specs.Walk.{keysOf, valuesOf}
+use Rattle.ranges.specs.Close.{closedTables}
+use Rattle.tables.specs.declared.Ticket.{Ticket}
+use Rattle.tables.specs.declared.Coordinator.{Coordinator}
+use Rattle.batch.specs.declared.Turn.{Turn}
+use Rattle.batch.specs.Cells.{cellsOf, rangedCount, steppedCount}
+
+-- each call has this many places of both pair buffers
+abbrev pub room : ℕ
+room = 64
+
+-- the call with its room: a step has as many places as it asks for, if there are that many
+abbrev pub meant : ℕ → Call → C.Call
+meant places (Lookup k) = C.lookup k
+meant places (Insert k v coin) = C.insert k v coin
+meant places (Remove k) = C.remove k
+meant places (HandOver n) = C.handOver (n .0)
+meant places (Ceil k) = C.ceil k
+meant places (Floor k) = C.floor k
+meant places (Succ k) = C.succ k
+meant places (Pred k) = C.pred k
+meant places (Fast l r) = C.fast l r places
+meant places (Open l r) = C.«open» l r
+meant places (Step v n) = C.step (v .0) (min n places)
+meant places (Close v) = C.close (v .0)
+meant places Sweep = C.sweep
+meant places Tally = C.tally
+
+-- the tables after the call
+unfoldable pub turnTables : Tables → Call → Tables
+turnTables t (Lookup k) = t
+turnTables t (Insert k v coin) = insertTables t k v coin
+turnTables t (Remove k) = removeTables t k
+turnTables t (HandOver n) = handedTables (handingOf t (n .0)) t (n .0)
+turnTables t (Ceil k) = t
+turnTables t (Floor k) = t
+turnTables t (Succ k) = t
+turnTables t (Pred k) = t
+turnTables t (Fast l r) = t
+turnTables t (Open l r) = openedTables t l r
+turnTables t (Step v n) = steppedTables t (v .0) (min n room)
+turnTables t (Close v) = closedTables t (v .0)
+turnTables t Sweep = sweptTables (t .coordinator .due) t
+turnTables t Tally = t
+
+-- the model's answer, and the pairs in it
+unfoldable pub answerOf : Tables → Call → C.Answer
+answerOf t call = M.answer (view t) (meant room call)
+
+abbrev pub pairsOf : Tables → Call → List Pair
+pairsOf t call = C.pairsIn (answerOf t call)
+
+abbrev pub keysIn : List Pair → List ℤ
+keysIn ps = map (λ (p : Pair). p .0) ps
+
+abbrev pub valuesIn : List Pair → List ℤ
+valuesIn ps = map (λ (p : Pair). p .1) ps
+
+-- the call made on t leaves t′, meets the model, answers with these cells and so many pairs, and lays the pairs at the front of its places: ks and vs become ks′ and vs′
+pub record Turned (t t′ : Tables) (call : Call) (ks vs ks′ vs′ cells : List ℤ) (count : ℕ) : Type 0 where
+  pub tables : t′ ≡ turnTables t call
+  pub met : Met t t′ (meant room call) (answerOf t call)
+  pub answers : cells ≡ cellsOf (C.code (meant room call)) (answerOf t call)
+  pub counts : count ≡ length (pairsOf t call)
+  pub few : count ≤ room
+  pub keysOut : ks′ ≡ written ks 0 (keysIn (pairsOf t call))
+  pub valuesOut : vs′ ≡ written vs 0 (valuesIn (pairsOf t call))
+
+-- ---- the calls that hold tickets, a coordinator or pairs, each as a turn
+
+abbrev pub turnOf : List ℤ → ℕ → List Ticket → Coordinator → Turn
+turnOf cells pairs tickets coordinator = record { cells = cells; pairs = pairs; tickets = tickets; coordinator = coordinator }
+
+pub record HandTurn (h : Handed) (rows rows′ : List ℕ) (cap : ℕ) (ts : List Ticket) (c : Coordinator) (n : ℕ) (r : Turn) : Type 0 where
+  pub cells : rows′ ≡ handedRows h rows cap n
+  pub is : r ≡ turnOf (cellsOf 3 (ofHanded h)) 0 (handedTickets h ts (c .ranges)) c
+
+pub record SweepTurn (rows rows′ : List ℕ) (cap : ℕ) (ts : List Ticket) (c : Coordinator) (r : Turn) : Type 0 where
+  pub cells : rows′ ≡ sweptRows (c .due) rows cap
+  pub is : r ≡ turnOf (cellsOf 12 (ofSwept (sweeping (c .due)))) 0 ts (withDue c (sweptDue (c .due)))
+
+abbrev pub openTurn : O.Open → Turn
+openTurn r = turnOf (cellsOf 9 (ofOpened (r .answer))) 0 (r .tickets) (r .coordinator)
+
+abbrev pub closeTurn : S.Close → Turn
+closeTurn r = turnOf (cellsOf 11 (ofClosed (r .answer))) 0 (r .tickets) (r .coordinator)
+
+pub record FastTurn (keys : List ℕ) (values : List ℤ) (rows : List ℕ) (ts : List Ticket) (c : Coordinator) (low high : ℤ) (ks vs ks′ vs′ : List ℤ) (r : Turn) : Type 0 where
+  pub answer : Ranged
+  pub by : RangedBy keys values rows (c .counter .0) low high ks vs ks′ vs′ answer
+  pub is : r ≡ turnOf (cellsOf 8 (ofRanged [] [] answer)) (rangedCount answer) ts c
+
+pub record StepTurn (keys : List ℕ) (values : List ℤ) (rows : List ℕ) (ts : List Ticket) (c : Coordinator) (v places : ℕ) (ks vs ks′ vs′ : List ℤ) (r : Turn) : Type 0 where
+  pub is :
+      r
+      ≡ turnOf (cellsOf 10 (ofStepped [] [] (stepEnd (stepping ts (c .ranges) v places) keys rows ts places .answer)))
+      (steppedCount (stepEnd (stepping ts (c .ranges) v places) keys rows ts places .answer))
+      (stepEnd (stepping ts (c .ranges) v places) keys rows ts places .tickets)
+      c
+  pub keysOut : ks′ ≡ written ks 0 (keysOf keys (stepNodes (stepping ts (c .ranges) v places) keys rows ts places))
+  pub valuesOut : vs′ ≡ written vs 0 (valuesOf values (stepNodes (stepping ts (c .ranges) v places) keys rows ts places))
