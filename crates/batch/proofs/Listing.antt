@@ -7,7 +7,8 @@ use mathlib.Core.Option.{Option}
 use mathlib.Core.Option as O
 use Prim.Native.Nat.{ℕ, suc, _+_, _-_, _*_, _<_, _≤_}
 use native.Mathlib.Omega.{arith}
-use lib.ListN.{length, drop, length-append, length-map, length-drop}
+use lib.ListN.{length, take, drop, length-append, length-map, length-drop}
+use lib.Seq.{take-add}
 use lib.IntN.{ℤ}
 use borrow.Author.Tests.{not-true, not-false}
 use Rattle.lists.specs.Tests.{Says}
@@ -23,13 +24,14 @@ use Rattle.transactions.specs.Calls.{numbersOf, callLimit}
 use Rattle.transactions.specs.Readings.{CallRead, WholeCall}
 use Rattle.transactions.proofs.Sequencing.{reached-length}
 use Rattle.transactions.proofs.Calling.{call-complete}
-use Rattle.transactions.proofs.Trips.{call-reached}
+use Rattle.transactions.proofs.Trips.{call-reached, written-call}
 use Rattle.model.specs.Plain.{Pair}
 use Rattle.model.specs.Calls as C
 use Rattle.model.specs.Model as M
 use Rattle.tables.specs.Tables.{Tables, Sound, Met, view}
 use Rattle.calls.specs.Outcome.{Called}
-use Rattle.calls.specs.Histories.{Calls, none, then}
+use Rattle.calls.specs.Histories.{Calls, none, then, AsTheModel}
+use Rattle.calls.proofs.Histories.{as-the-model}
 use Rattle.batch.specs.declared.End.{End}
 use Rattle.batch.specs.declared.End.the-variants.{Ended, Stop, More, Full, Refused}
 use Rattle.batch.specs.declared.Then.{Then}
@@ -298,3 +300,27 @@ ran-refused i {r} s e = record { tested = r; says = s; refuses = λ z. refl; lis
 
 pub ran-lists : {i : Input} {o : Output} {r : Bool} → Says r (Sound (i .tables)) → not r ≡ false → Listed i o → Ran i o
 ran-lists {r = r} s e l = record { tested = r; says = s; refuses = λ z. absurd (true≢false (sym (not-false r e) ∙ z)); lists = λ y. l }
+
+-- ---- what an outcome tells
+
+one-more-bytes : (bytes before : List ℕ) (c : Call) → take (length before) bytes ≡ before → WholeCall (drop (length before) bytes) c (length (bytesOf (numbersOf c)))
+    → take (length (before ++ bytesOf (numbersOf c))) bytes ≡ before ++ bytesOf (numbersOf c)
+one-more-bytes bytes before c e w =
+    let n = length (bytesOf (numbersOf c)) in
+    ap (λ k. take k bytes) (length-append before (bytesOf (numbersOf c)))
+    ∙ (take-add (length before) n bytes ∙ ap₂ (λ (x y : List ℕ). x ++ y) e (written-call (w .written)))
+
+made-bytes : (i : Input) (before cs : List Call) → take (length (bytesIn before)) (i .bytes) ≡ bytesIn before → Made i before cs → take (length (bytesIn (before ++ cs))) (i .bytes) ≡ bytesIn (before ++ cs)
+made-bytes i before [] e m = rw (append-nil before) e
+made-bytes i before (c ∷ cs) e m =
+    rw append-assoc at
+    (made-bytes i (before ++ (c ∷ [])) cs (rw (bytes-snoc before c) (one-more-bytes (i .bytes) (bytesIn before) c e (m .0 .1))) (m .1))
+
+-- LAW: the bytes used are the written forms of the calls made, one after another
+pub listed-bytes : {i : Input} {o : Output} (l : Listed i o) → take (o .used) (i .bytes) ≡ bytesIn (l .made)
+unfolding leaves
+listed-bytes {i} l = ap (λ (x : Output). take (x .used) (i .bytes)) (l .is) ∙ made-bytes i [] (l .made) refl (l .in-turn)
+
+-- LAW: the calls made came to what the model says
+pub listed-model : {i : Input} {o : Output} → Sound (i .tables) → (l : Listed i o) → AsTheModel (i .tables) (madeOn (i .tables) (l .made)) (o .tables)
+listed-model S l = as-the-model S (l .met)

@@ -584,8 +584,8 @@ fn run_calls(
     requires { ⌜ Sound (lent (now keys) (now values) (now rows) (now buckets) tickets coordinator) ⌝ }
     ensures { λ r. ⌜ Listed (inputOf (lent (now (keys .entry)) (now (values .entry)) (now (rows .entry)) (now (buckets .entry)) tickets coordinator) (now (bytes .entry)) more (now (answers .entry)) (now («out_keys» .entry)) (now («out_values» .entry))) (outputOf (now (keys .exit)) (now (values .exit)) (now (rows .exit)) (now (buckets .exit)) (now (answers .exit)) (now («out_keys» .exit)) (now («out_values» .exit)) r) ⌝ }
 {
-    let mut held = tickets;
-    let mut counts = coordinator;
+    let mut tickets_now = tickets;
+    let mut coordinator_now = coordinator;
     let mut used: usize = 0;
     let mut calls: usize = 0;
     let mut pairs: usize = 0;
@@ -607,8 +607,8 @@ fn run_calls(
                     values,
                     rows,
                     buckets,
-                    held,
-                    counts,
+                    tickets_now,
+                    coordinator_now,
                     call,
                     calls,
                     pairs,
@@ -617,9 +617,9 @@ fn run_calls(
                     out_values,
                 );
                 let after = turn.tickets;
-                held = after;
-                let now = turn.coordinator;
-                counts = now;
+                let counts = turn.coordinator;
+                tickets_now = after;
+                coordinator_now = counts;
                 used += len;
                 calls += 1;
                 pairs += turn.pairs;
@@ -630,8 +630,8 @@ fn run_calls(
                     used,
                     calls,
                     pairs,
-                    tickets: held,
-                    coordinator: counts,
+                    tickets: tickets_now,
+                    coordinator: coordinator_now,
                 };
             }
         }
@@ -655,7 +655,8 @@ pub fn run_list(
 ) -> Batch
     ensures { λ r. ⌜ Ran (inputOf (lent (now (keys .entry)) (now (values .entry)) (now (rows .entry)) (now (buckets .entry)) tickets coordinator) (now (bytes .entry)) more (now (answers .entry)) (now («out_keys» .entry)) (now («out_values» .entry))) (outputOf (now (keys .exit)) (now (values .exit)) (now (rows .exit)) (now (buckets .exit)) (now (answers .exit)) (now («out_keys» .exit)) (now («out_values» .exit)) r) ⌝ }
 {
-    if !soundness::sound(keys, values, rows, buckets, tickets, coordinator) {
+    let sound = soundness::sound(keys, values, rows, buckets, tickets, coordinator);
+    if !sound {
         return Batch {
             end: End::Refused(1),
             used: 0,

@@ -12,12 +12,12 @@ use Rattle.batch.proofs.run_calls.Statement.{statement}
 use Rattle.batch.proofs.run_calls.Tie as tie
 
 abbrev Inv-loop : tie.InvT-loop
-Inv-loop keys₀ values₀ rows₀ buckets₀ bytes more answers₀ out-keys₀ out-values₀ held₀ counts₀ used₀ calls₀ pairs₀ keys values rows buckets answers out-keys out-values held counts used calls pairs =
-    Sofar (inputOf (lent keys₀ values₀ rows₀ buckets₀ held₀ counts₀) bytes more answers₀ out-keys₀ out-values₀) (lent keys values rows buckets held counts) answers out-keys out-values used calls pairs
+Inv-loop keys₀ values₀ rows₀ buckets₀ bytes more answers₀ out-keys₀ out-values₀ tickets₀ coordinator₀ used₀ calls₀ pairs₀ keys values rows buckets answers out-keys out-values tickets coordinator used calls pairs =
+    Sofar (inputOf (lent keys₀ values₀ rows₀ buckets₀ tickets₀ coordinator₀) bytes more answers₀ out-keys₀ out-values₀) (lent keys values rows buckets tickets coordinator) answers out-keys out-values used calls pairs
     × (length keys ≡ length keys₀) × (length values ≡ length values₀) × (length rows ≡ length rows₀) × (length buckets ≡ length buckets₀)
 
 abbrev μ-loop : tie.MeasureT-loop
-μ-loop keys₀ values₀ rows₀ buckets₀ bytes more answers₀ out-keys₀ out-values₀ held₀ counts₀ used₀ calls₀ pairs₀ keys values rows buckets answers out-keys out-values held counts used calls pairs = length bytes - used
+μ-loop keys₀ values₀ rows₀ buckets₀ bytes more answers₀ out-keys₀ out-values₀ tickets₀ coordinator₀ used₀ calls₀ pairs₀ keys values rows buckets answers out-keys out-values tickets coordinator used calls pairs = length bytes - used
 
 loop-holds : tie.Need-loop-holds Inv-loop μ-loop
 loop-holds c = (sofar-none _ (c .before .before .before .before .pre), refl, refl, refl, refl)
