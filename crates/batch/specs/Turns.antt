@@ -94,28 +94,34 @@ pub record Turned (t t′ : Tables) (call : Call) (ks vs ks′ vs′ cells : Lis
 
 -- ---- the calls that hold tickets, a coordinator or pairs, each as a turn
 
+-- a turn of these parts
 abbrev pub turnOf : List ℤ → ℕ → List Ticket → Coordinator → Turn
 turnOf cells pairs tickets coordinator = record { cells = cells; pairs = pairs; tickets = tickets; coordinator = coordinator }
 
+-- a node handed over: h is the answer
 pub record HandTurn (h : Handed) (rows rows′ : List ℕ) (cap : ℕ) (ts : List Ticket) (c : Coordinator) (n : ℕ) (r : Turn) : Type 0 where
   pub cells : rows′ ≡ handedRows h rows cap n
   pub is : r ≡ turnOf (cellsOf 3 (ofHanded h)) 0 (handedTickets h ts (c .ranges)) c
 
+-- a sweep
 pub record SweepTurn (rows rows′ : List ℕ) (cap : ℕ) (ts : List Ticket) (c : Coordinator) (r : Turn) : Type 0 where
   pub cells : rows′ ≡ sweptRows (c .due) rows cap
   pub is : r ≡ turnOf (cellsOf 12 (ofSwept (sweeping (c .due)))) 0 ts (withDue c (sweptDue (c .due)))
 
+-- a range opened, a range closed
 abbrev pub openTurn : O.Open → Turn
 openTurn r = turnOf (cellsOf 9 (ofOpened (r .answer))) 0 (r .tickets) (r .coordinator)
 
 abbrev pub closeTurn : S.Close → Turn
 closeTurn r = turnOf (cellsOf 11 (ofClosed (r .answer))) 0 (r .tickets) (r .coordinator)
 
+-- a fast range
 pub record FastTurn (keys : List ℕ) (values : List ℤ) (rows : List ℕ) (ts : List Ticket) (c : Coordinator) (low high : ℤ) (ks vs ks′ vs′ : List ℤ) (r : Turn) : Type 0 where
   pub answer : Ranged
   pub by : RangedBy keys values rows (c .counter .0) low high ks vs ks′ vs′ answer
   pub is : r ≡ turnOf (cellsOf 8 (ofRanged [] [] answer)) (rangedCount answer) ts c
 
+-- a step with so many places, at the front of both buffers
 pub record StepTurn (keys : List ℕ) (values : List ℤ) (rows : List ℕ) (ts : List Ticket) (c : Coordinator) (v places : ℕ) (ks vs ks′ vs′ : List ℤ) (r : Turn) : Type 0 where
   pub is :
       r
