@@ -5,9 +5,11 @@ ghost use Rattle.sizes.specs.Sizes.{sizeOf};
 ghost use Rattle.sizes.specs.Rank.{rankOf, keyOf, bucketOf};
 
 // A version, which is only ever compared with a version.
+#[repr(C)]
 pub struct Version(pub u32);
 
 // The number of a node.
+#[repr(C)]
 pub struct Node(pub u32);
 
 pub struct Size {

@@ -8,6 +8,7 @@ ghost use Rattle.rows.specs.Rows.{insertions, removals};
 ghost use Rattle.tables.specs.Tables.{levelsOf, noTicket, version};
 
 // An open range: its version, its bounds as ranks, the node that it rests on or the tail, and how many nodes are on its list.
+#[repr(C)]
 pub struct Ticket {
     pub version: Version,
     pub low: u64,
@@ -17,6 +18,7 @@ pub struct Ticket {
 }
 
 // The version counter, how many ranges are open, and how many nodes are due.
+#[repr(C)]
 pub struct Coordinator {
     pub counter: Version,
     pub ranges: u32,
