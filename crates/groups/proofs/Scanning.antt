@@ -25,6 +25,10 @@ pub record Going (rest : List ℕ) (sum power count : ℕ) : Type 0 where
 pub going-none : (rest : List ℕ) → Going rest 0 1 0
 going-none rest = record { inside = omega arith; few = omega arith; powers = refl; sums = refl; high = tt }
 
+-- the same of the bytes alone, whatever they are worth
+pub going-alone : {rest : List ℕ} {sum power count : ℕ} → Going rest sum power count → Going rest (worth (take count rest)) (128 ^ count) count
+going-alone g = record { inside = g .inside; few = g .few; powers = refl; sums = refl; high = g .high }
+
 -- what holds of the first k bytes holds of one among them
 among : (P : ℕ → Type 0) (f : List ℕ) (x : ℕ) (t : List ℕ) (k : ℕ) → length f < k → All P (take k (f ++ x ∷ t)) → P x
 among P [] x t zero h a = absurd (omega arith)
@@ -33,15 +37,12 @@ among P (y ∷ f) x t zero h a = absurd (omega arith)
 among P (y ∷ f) x t (suc k) h a = among P f x t k (omega arith) (a .1)
 
 module _ {rest : List ℕ} {sum power count : ℕ} (g : Going rest sum power count) where
-  -- the sum is below the power, and both are small
+  -- the sum is below the power, and the power is small before the tenth byte
   pub going-below : sum < power
   going-below = rw (g .powers, g .sums) (let e = length-take-le count rest (g .inside) in rw e at (worth-lt (take count rest)))
 
   pub going-small : count ≢ 9 → power ≤ 2 ^ 56
   going-small n = rw (g .powers) (let h : count ≤ 8 = omega (arith, g .few) in pow-le-pow-right {n = 128} (omega arith) h)
-
-  pub going-fits : power ≤ 2 ^ 63
-  going-fits = rw (g .powers) (pow-le-pow-right {n = 128} (omega arith) (g .few))
 
   -- LAW: the bytes end
   pub going-out : length rest ≤ count → Begun rest
@@ -71,7 +72,7 @@ module _ {rest : List ℕ} {sum power count b : ℕ} (h : Met rest sum power cou
       let e : rest ≡ take count rest ++ b ∷ drop (suc count) rest = sym (take-append-drop (suc count) rest) ∙ ap (λ (l : List ℕ). l ++ drop (suc count) rest) one-more ∙ append-assoc (take count rest) (b ∷ []) (drop (suc count) rest) in
       same-end (take count rest) (w .written .front) b (w .written .last) (drop (suc count) rest) (drop len rest) (h .going .high) (w .written .high) low (w .written .low) (sym e ∙ opened w)
 
-  low-over : b < 128 → Begun rest → ⊥
+  pub low-over : b < 128 → Begun rest → ⊥
   low-over low w =
       let e : rest ≡ (take count rest ++ b ∷ []) ++ drop (suc count) rest = sym (take-append-drop (suc count) rest) ∙ ap (λ (l : List ℕ). l ++ drop (suc count) rest) one-more in
       let a = all-at High (take count rest) b [] (all-left High (take count rest ++ b ∷ []) (drop (suc count) rest) (rw e at (w .high))) in
@@ -123,6 +124,21 @@ module _ {rest : List ℕ} {sum power count b : ℕ} (h : Met rest sum power cou
         omega (arith, w .written .below);
     over = low-over low;
   }
+
+  -- the tenth byte's group begins at bit 63, so that a last byte there is 1 or too great, and before it every last byte fits
+  tenth-power : count ≡ 9 → power ≡ 2 ^ 63
+  tenth-power nine = h .going .powers ∙ ap (λ k. 128 ^ k) nine
+
+  pub tenth-large : count ≡ 9 → 1 < b → 2 ^ 64 ≤ sum + b * power
+  tenth-large nine large = rw (tenth-power nine) (omega arith)
+
+  pub tenth-fits : count ≡ 9 → b ≤ 1 → sum + b * power < 2 ^ 64
+  tenth-fits nine small = let p = tenth-power nine in let s = going-below (h .going) in rw p (omega arith)
+
+  pub early-fits : count ≢ 9 → b < 128 → sum + b * power < 2 ^ 64
+  early-fits nine low =
+      let p = going-small (h .going) nine in
+      omega (arith, p, going-below (h .going), mul-le-mul {n₁ = b} {m₁ = power} {n₂ = 127} {m₂ = 2 ^ 56} (omega arith) p)
 
   next-high : 128 ≤ b → All High (take (suc count) rest)
   next-high set = rw one-more (all-append High (take count rest) (b ∷ []) (h .going .high) (record { set = set; byte = h .byte }, tt))

@@ -1,12 +1,12 @@
 -- Laws of written numbers: what bytes are worth, no written form is the beginning of another, and a number has one written form.
 -- Assumes nothing.
-use Prim.Native.Nat.{ℕ, suc, _+_, _*_, _%_, _^_, _≤_, _<_}
+use Prim.Native.Nat.{ℕ, zero, suc, _+_, _*_, _%_, _^_, _≤_, _<_}
 use mathlib.Core.Path.{_≡_, refl, sym, ap, ap₂, _∙_}
-use mathlib.Core.Logic.{_⊎_, _≢_, inr, ⊎-elim}
+use mathlib.Core.Logic.{_⊎_, _≢_, inl, inr, ⊎-elim}
 use mathlib.Core.List.{List, [], _∷_, _++_, append-assoc}
 use native.Mathlib.Omega.{arith}
 use native.Mathlib.Nat.{pow-succ', mul-left-comm}
-use lib.ListN.{length, take, drop, take-append-drop, length-append}
+use lib.ListN.{length, getD, take, drop, take-append-drop, length-append}
 use lib.Seq.{length-take-le}
 use Rattle.lists.specs.Holds.{All}
 use Rattle.lists.proofs.Holding.{all-at}
@@ -99,3 +99,24 @@ pub written-same : {n : ℕ} {a b : List ℕ} → Written n a → Written n b �
 written-same {n} {a} {b} v w =
     let e : worth (v .front ++ v .last ∷ []) ≡ worth (w .front ++ w .last ∷ []) = sym (ap worth (v .whole)) ∙ v .value ∙ sym (w .value) ∙ ap worth (w .whole) in
     v .whole ∙ same-worth (v .front) (w .front) (v .last) (w .last) (v .high) (w .high) (v .low) (w .low) (v .shortest) (w .shortest) e ∙ sym (w .whole)
+
+first-byte : (rest : List ℕ) (len n : ℕ) → take len rest ≡ n ∷ [] → getD rest 0 0 ≡ n
+first-byte [] zero n e = absurd (let z : _≡_ {A = ℕ} 0 1 = ap length e in omega arith)
+first-byte [] (suc k) n e = absurd (let z : _≡_ {A = ℕ} 0 1 = ap length e in omega arith)
+first-byte (b ∷ rest) zero n e = absurd (let z : _≡_ {A = ℕ} 0 1 = ap length e in omega arith)
+first-byte (b ∷ rest) (suc k) n e = cc
+
+-- LAW: a number below 128 is its own first byte
+pub stands-first : {rest : List ℕ} {n len : ℕ} → n < 128 → Stands rest n len → getD rest 0 0 ≡ n
+stands-first {rest} {n} {len} low s =
+    first-byte rest len n (written-same (s .written) (record {
+      front = [];
+      last = n;
+      whole = refl;
+      high = tt;
+      low = low;
+      shortest = inl refl;
+      short = omega arith;
+      value = omega arith;
+      below = omega arith;
+    }))

@@ -3,7 +3,8 @@ ghost use mathlib.Core.Path.{_≡_};
 ghost use Prim.Native.Nat.{_+_, _≤_};
 ghost use lib.ListN.{length, drop};
 ghost use lib.Seq.{sets};
-ghost use Rattle.groups.specs.Groups.{Reads, groupsOf};
+ghost use Rattle.lists.specs.Tests.{Says};
+ghost use Rattle.groups.specs.Groups.{Begun, Reads, groupsOf};
 ghost use Rattle.groups.specs.Buffers.{Writes};
 ghost use Rattle.groups.specs.Signs.{turned, unturned};
 
@@ -20,7 +21,7 @@ pub enum Wrote {
     Refused(u32),
 }
 
-fn wide(byte: u8) -> u64
+pub fn wide(byte: u8) -> u64
     ensures { λ r. ⌜ r ≡ byte ⌝ }
 {
     byte as u64
@@ -43,7 +44,8 @@ pub fn read(bytes: &[u8], at: usize) -> Number
             if byte == 0 {
                 return Number::Malformed;
             }
-            if (18446744073709551615 - sum) / power < byte {
+            // Only a tenth byte can make a number too great.
+            if count == 9 && 1 < byte {
                 return Number::Malformed;
             }
             return Number::Of(sum + byte * power, count + 1);
@@ -57,6 +59,26 @@ pub fn read(bytes: &[u8], at: usize) -> Number
         place += 1;
     }
     Number::CutOff
+}
+
+// Whether the bytes left from this place on are only the beginning of a number.
+pub fn begun(bytes: &[u8], at: usize) -> bool
+    ensures { λ r. ⌜ Says r (Begun (drop at (now (bytes .entry)))) ⌝ }
+{
+    let mut count: usize = 0;
+    let mut place = at;
+    while place < bytes.len() {
+        let byte = wide(bytes[place]);
+        if byte < 128 {
+            return false;
+        }
+        if 9 <= count {
+            return false;
+        }
+        count += 1;
+        place += 1;
+    }
+    true
 }
 
 // How many bytes a number takes.

@@ -1,41 +1,50 @@
 -- Laws that join the reading of a code and of the numbers behind it to the reading of a call.
 -- Assumes nothing.
-use Prim.Native.Nat.{ℕ, _+_, _-_, _≤_}
-use mathlib.Core.Path.{_≡_, sym, ap, subst, _∙_}
+use Prim.Native.Nat.{ℕ, _+_, _-_, _≤_, _<_}
+use mathlib.Core.Path.{_≡_, refl, sym, ap, subst, _∙_}
 use mathlib.Core.Bool.{Bool}
 use mathlib.Core.List.{List, [], _∷_, _++_, append-nil}
-use mathlib.Core.Option.{Option, some}
+use mathlib.Core.Option.{Option}
 use native.Mathlib.Omega.{arith}
-use lib.ListN.{length, take, drop, length-drop}
-use lib.Seq.{take-add, drop-drop}
+use native.Mathlib.Nat.{add-zero}
+use lib.ListN.{length, getD, take, drop, length-drop}
+use lib.Seq.{take-add, drop-drop, getD-drop}
 use Rattle.groups.specs.Groups.{Begun, Stands}
+use Rattle.groups.proofs.Standing.{stands-some, stands-first}
+use Rattle.groups.proofs.Scanning.{Met, going-none, going-one}
 use Rattle.transactions.specs.declared.Three.{Three}
 use Rattle.transactions.specs.declared.Call.{Call}
 use Rattle.transactions.specs.Sequences.{Sequence, listed, Reached, Stops, Stopped, Waits}
 use Rattle.transactions.specs.Calls.{small, operandsOf, callLimit, numbersOf}
 use Rattle.transactions.specs.Readings.{StopsAt, WholeCall, WholeHeader}
-use Rattle.transactions.specs.Inner.{WholeNumbers, CodeRead}
+use Rattle.transactions.specs.Inner.{WholeNumbers, CodeRead, NoCode}
+use Rattle.transactions.proofs.Sequencing.{reached-none}
+use Rattle.transactions.proofs.Running.{Due, due-well}
 
--- a code alone: reading it whole, or stopping at it
-pub code-whole : {rest : List ℕ} {at place : ℕ} {three : Three} → WholeNumbers (13 ∷ []) rest at three place → CodeRead rest at (three .first) place
-code-whole w = record {
-  offset = w .offset;
-  is = w .is;
-  reached = record { inside = w .reached .inside; before = w .reached .before; within = w .reached .within };
-}
+-- a code is due first
+pub code-due : (bytes : List ℕ) (at : ℕ) → Due callLimit bytes at at 13
+code-due bytes at = record { numbers = []; offset = 0; is = omega arith; reached = reached-none callLimit (drop at bytes); due = refl }
 
-code-stops : {rest : List ℕ} {o : ℕ} → Stops (listed (13 ∷ [])) rest o → Stops callLimit rest o
-code-stops {rest} {o} s = go (s .numbers) (s .reached) (s .due)
-  where
-    go : (ns : List ℕ) → Reached (listed (13 ∷ [])) rest ns o → listed (13 ∷ []) ns ≡ some (s .most) → Stops callLimit rest o
-    go [] r d = record { numbers = []; reached = record { inside = r .inside; before = r .before; within = tt }; most = s .most; due = d; bad = s .bad }
-    go (n ∷ ns) r d = absurd (let z : _≡_ {A = ℕ} 0 1 = cc in omega arith)
+pub no-code : (bytes : List ℕ) (at : ℕ) → NoCode bytes at → (n len : ℕ) → Stands (drop at bytes) n len → n ≤ 13 → ⊥
+no-code bytes at none n len s l =
+    let inside : at < length bytes = omega (arith, s .inside, stands-some s, length-drop at bytes) in
+    let e : getD bytes at 0 ≡ n = ap (λ k. getD bytes k 0) (sym (add-zero at)) ∙ sym (getD-drop at bytes 0 0) ∙ stands-first (omega arith) s in
+    omega (arith, none inside, e)
 
-pub code-stop : {rest : List ℕ} {at place : ℕ} {more : Bool} → StopsAt (listed (13 ∷ [])) rest at more place → StopsAt callLimit rest at more place
-code-stop s = record { offset = s .offset; is = s .is; stopped = record { stops = code-stops (s .stopped .stops); final = s .stopped .final } }
+pub code-read : (bytes : List ℕ) (at : ℕ) {code len : ℕ} → Stands (drop at bytes) code len → code ≤ 13 → CodeRead (drop at bytes) at code (at + len)
+unfolding code-due
+code-read bytes at {code} {len} s l = record { offset = 0 + len; is = omega arith; reached = due-well (code-due bytes at) s l }
 
-pub code-waits : {rest : List ℕ} {more : Bool} → Waits (listed (13 ∷ [])) rest more → Waits callLimit rest more
-code-waits w = record { follows = w .follows; offset = w .offset; stops = code-stops (w .stops); begun = w .begun }
+-- a code of one byte
+pub code-byte : (bytes : List ℕ) (at : ℕ) {code : ℕ} → at < length bytes → code ≡ getD bytes at 0 → code ≤ 13 → CodeRead (drop at bytes) at code (at + 1)
+code-byte bytes at {code} inside is l =
+    let m : Met (drop at bytes) 0 1 0 code = record {
+      going = going-none (drop at bytes);
+      more = simp length-drop (omega arith);
+      is = getD-drop at bytes 0 0 ∙ ap (λ k. getD bytes k 0) (add-zero at) ∙ sym is;
+      byte = omega arith;
+    } in
+    code-read bytes at (going-one m (omega arith) refl) l
 
 -- numbers behind a first one
 module _ (limit : List ℕ → Option ℕ) (rest : List ℕ) (code o : ℕ) (r : Reached limit rest (code ∷ []) o) where

@@ -1,71 +1,44 @@
--- Laws of the table of the operands of each code, and of the calls that are made of a code and its operands.
+-- Laws of the operands of each code, and of the calls that are made of a code and its operands.
 -- Assumes nothing.
-use Prim.Native.Nat.{ℕ, zero, suc, _≤_, _<_}
-use mathlib.Core.Path.{_≡_, refl, sym, ap, _∙_}
-use mathlib.Core.Bool.{Bool}
-use mathlib.Core.List.{List, [], _∷_}
+use Prim.Native.Nat.{ℕ, zero, suc, _+_, _-_, _≤_, _<_}
+use mathlib.Core.Path.{_≡_, sym, ap, _∙_}
+use mathlib.Core.List.{List, []}
 use native.Mathlib.Omega.{arith}
 use native.Mathlib.Nat.{le-antisymm}
-use lib.ListN.{getD, take, List·getD-map}
-use lib.Dec.{leb}
+use lib.ListN.{getD, take, drop, replicate, getD-replicate}
+use lib.Seq.{getD-take, getD-drop}
 use lib.IntN.{ℤ}
 use lib.Signed.{mag}
-use borrow.Author.Tests.{leb-true}
 use mir.Syntax.{w64}
 use mir.Val.{toZ, ofZ}
 use mir.ValLaws.{toZ-ofZ}
-use Rattle.lists.proofs.Entries.{tested-getD}
 use Rattle.groups.specs.Signs.{turned, unturned}
 use Rattle.groups.proofs.Signing.{turned-unturned}
-use Rattle.transactions.specs.declared.Operands.{Operands}
 use Rattle.transactions.specs.declared.Coded.{Coded}
-use Rattle.transactions.specs.Calls.{any, small}
+use Rattle.transactions.specs.Calls.{operands, operandsOf}
 use Rattle.transactions.specs.Inner.{OperandsFor, CodedAs}
 
-abbrev pub limitsOf : Operands → List ℕ
-limitsOf o = take (o .count) (o .most)
-
-abbrev pub few : Operands → Bool
-few o = leb (o .count) 3
-
--- the code's table
-abbrev entry : ℕ → List ℕ → Operands
-entry n l = record { count = n; most = l }
-
-abbrev pub nothing : Operands
-nothing = entry 0 []
-
-abbrev pub table : List Operands
-table =
-    entry 1 (any ∷ 0 ∷ 0 ∷ [])
-    ∷ entry 3 (any ∷ any ∷ any ∷ [])
-    ∷ entry 1 (any ∷ 0 ∷ 0 ∷ [])
-    ∷ entry 1 (small ∷ 0 ∷ 0 ∷ [])
-    ∷ entry 1 (any ∷ 0 ∷ 0 ∷ [])
-    ∷ entry 1 (any ∷ 0 ∷ 0 ∷ [])
-    ∷ entry 1 (any ∷ 0 ∷ 0 ∷ [])
-    ∷ entry 1 (any ∷ 0 ∷ 0 ∷ [])
-    ∷ entry 2 (any ∷ any ∷ 0 ∷ [])
-    ∷ entry 2 (any ∷ any ∷ 0 ∷ [])
-    ∷ entry 2 (small ∷ small ∷ 0 ∷ [])
-    ∷ entry 1 (small ∷ 0 ∷ 0 ∷ [])
-    ∷ entry 0 (0 ∷ 0 ∷ 0 ∷ [])
-    ∷ entry 0 (0 ∷ 0 ∷ 0 ∷ [])
-    ∷ []
-
--- LAW: the table, tested as a whole, has the limits of each code
-pub operands-at : (code : ℕ) → OperandsFor code (getD table code nothing)
-operands-at code = record {
-  few = leb-true _ 3 (tested-getD few nothing table refl refl code);
-  limits = sym (List·getD-map limitsOf table code nothing);
-}
+-- LAW: a run of codes that all have the same limits
+pub operands-run : (first run count most : ℕ) {code : ℕ} → count ≤ 3 → take run (drop first operands) ≡ replicate run (replicate count most) → first ≤ code → code < first + run → OperandsFor code (record { count = count; most = most })
+operands-run first run count most {code} few same low high =
+    let inside : code - first < run = omega arith in
+    let is : first + (code - first) ≡ code = omega arith in
+    record {
+      few = few;
+      limits =
+          sym (getD-replicate run (code - first) (replicate count most) [] inside)
+          ∙ ap (λ (l : List (List ℕ)). getD l (code - first) []) (sym same)
+          ∙ getD-take run (drop first operands) (code - first) [] inside
+          ∙ getD-drop first operands (code - first) []
+          ∙ ap operandsOf is;
+    }
 
 -- the code is none of those below n
 abbrev pub Past : ℕ → ℕ → Type 0
 Past zero code = Unit {0}
 Past (suc n) code = Past n code × (code ≡ n → ⊥)
 
-past : (n code : ℕ) → Past n code → n ≤ code
+pub past : (n code : ℕ) → Past n code → n ≤ code
 past zero code p = omega arith
 past (suc n) code p = let h = past n code (p .0) in let k = p .1 in omega arith
 

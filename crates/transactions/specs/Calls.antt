@@ -1,10 +1,9 @@
 -- The header and the calls as numbers: a call is its code and its numbers.
 -- Assumes nothing.
-use Prim.Native.Nat.{ℕ, _-_, _^_, _≤_}
-use mathlib.Core.Path.{_≡_}
+use Prim.Native.Nat.{ℕ, _-_, _^_}
 use mathlib.Core.List.{List, [], _∷_}
 use mathlib.Core.Option.{Option, some}
-use lib.ListN.{getD, take}
+use lib.ListN.{getD}
 use mir.Syntax.{w32, w64}
 use mir.Val.{Fits, SFits}
 use Rattle.groups.specs.Signs.{turned}

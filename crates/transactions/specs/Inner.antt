@@ -1,10 +1,10 @@
 -- What the inner functions say, which the public contracts do not cite.
 -- Assumes nothing.
-use Prim.Native.Nat.{ℕ, _+_, _≤_}
+use Prim.Native.Nat.{ℕ, _+_, _≤_, _<_}
 use mathlib.Core.Path.{_≡_}
 use mathlib.Core.Bool.{Bool}
 use mathlib.Core.List.{List, [], _∷_}
-use lib.ListN.{length, take}
+use lib.ListN.{length, take, replicate, getD}
 use Rattle.transactions.specs.declared.Three.{Three}
 use Rattle.transactions.specs.declared.Numbers.{Numbers}
 use Rattle.transactions.specs.declared.Operands.{Operands}
@@ -30,10 +30,14 @@ pub record CodeRead (rest : List ℕ) (at code place : ℕ) : Type 0 where
   pub is : place ≡ at + offset
   pub reached : Reached callLimit rest (code ∷ []) offset
 
--- the limits of the numbers behind a code, as an array of which the first count
+-- no code stands at the place: a code is a number of one byte
+abbrev pub NoCode : List ℕ → ℕ → Type 0
+NoCode bytes at = at < length bytes → 13 < getD bytes at 0
+
+-- the limits of the numbers behind a code, which are all the same
 pub record OperandsFor (code : ℕ) (r : Operands) : Type 0 where
   pub few : r .count ≤ 3
-  pub limits : take (r .count) (r .most) ≡ operandsOf code
+  pub limits : replicate (r .count) (r .most) ≡ operandsOf code
 
 -- numbers to be written, as an array of which the first count
 pub record CodedAs (numbers : List ℕ) (r : Coded) : Type 0 where

@@ -2,13 +2,13 @@
 ghost use mathlib.Core.Path.{_≡_};
 ghost use mathlib.Core.List.{[], _∷_};
 ghost use Prim.Native.Nat.{_≤_};
-ghost use lib.ListN.{length, take, drop};
+ghost use lib.ListN.{length, take, drop, replicate};
 ghost use lib.Seq.{sets};
 ghost use Rattle.groups.specs.Buffers.{Writes};
 ghost use Rattle.transactions.specs.Sequences.{Within, bytesOf};
 ghost use Rattle.transactions.specs.Calls.{numbersOf, headerOf, operandsOf, callLimit, small};
 ghost use Rattle.transactions.specs.Readings.{HeaderRead, CallRead};
-ghost use Rattle.transactions.specs.Inner.{OperandsFor, CodedAs, NumbersRead, CodeRead};
+ghost use Rattle.transactions.specs.Inner.{OperandsFor, CodedAs, NumbersRead, CodeRead, NoCode};
 use groups::Number;
 use groups::Wrote;
 use groups::length_of;
@@ -74,71 +74,11 @@ enum Numbers {
     More,
 }
 
-// How many numbers follow a code, and the greatest value of each.
+// How many numbers follow a code, and the greatest value of each of them.
 struct Operands {
     pub count: usize,
-    pub most: [u64; 3],
+    pub most: u64,
 }
-
-// Of each code.
-const OPERANDS: [Operands; 14] = [
-    Operands {
-        count: 1,
-        most: [ANY, 0, 0],
-    },
-    Operands {
-        count: 3,
-        most: [ANY, ANY, ANY],
-    },
-    Operands {
-        count: 1,
-        most: [ANY, 0, 0],
-    },
-    Operands {
-        count: 1,
-        most: [SMALL, 0, 0],
-    },
-    Operands {
-        count: 1,
-        most: [ANY, 0, 0],
-    },
-    Operands {
-        count: 1,
-        most: [ANY, 0, 0],
-    },
-    Operands {
-        count: 1,
-        most: [ANY, 0, 0],
-    },
-    Operands {
-        count: 1,
-        most: [ANY, 0, 0],
-    },
-    Operands {
-        count: 2,
-        most: [ANY, ANY, 0],
-    },
-    Operands {
-        count: 2,
-        most: [ANY, ANY, 0],
-    },
-    Operands {
-        count: 2,
-        most: [SMALL, SMALL, 0],
-    },
-    Operands {
-        count: 1,
-        most: [SMALL, 0, 0],
-    },
-    Operands {
-        count: 0,
-        most: [0, 0, 0],
-    },
-    Operands {
-        count: 0,
-        most: [0, 0, 0],
-    },
-];
 
 // Numbers to be written one after another: the first count of them.
 struct Coded {
@@ -146,10 +86,10 @@ struct Coded {
     pub of: [u64; 4],
 }
 
-// Reads numbers one after another, each no greater than its limit.
-fn read_numbers(bytes: &[u8], at: usize, more: bool, count: usize, most: [u64; 3]) -> Numbers
+// Reads numbers one after another, each no greater than the same limit.
+fn read_numbers(bytes: &[u8], at: usize, more: bool, count: usize, most: u64) -> Numbers
     requires { ⌜ count ≤ 3 ⌝ }
-    ensures { λ r. ⌜ NumbersRead (take count most) (drop at (now (bytes .entry))) at more r ⌝ }
+    ensures { λ r. ⌜ NumbersRead (replicate count most) (drop at (now (bytes .entry))) at more r ⌝ }
 {
     let mut found = [0u64; 3];
     let mut place = at;
@@ -158,7 +98,7 @@ fn read_numbers(bytes: &[u8], at: usize, more: bool, count: usize, most: [u64; 3
         let number = groups::read(bytes, place);
         match number {
             Number::Of(n, len) => {
-                if most[i] < n {
+                if most < n {
                     return Numbers::Stop(place);
                 }
                 found[i] = n;
@@ -191,8 +131,29 @@ fn operands_of(code: u64) -> Operands
     requires { ⌜ code ≤ 13 ⌝ }
     ensures { λ r. ⌜ OperandsFor code r ⌝ }
 {
-    let i = code as usize;
-    OPERANDS[i]
+    match code {
+        0 | 2 | 4 | 5 | 6 | 7 => Operands {
+            count: 1,
+            most: ANY,
+        },
+        1 => Operands {
+            count: 3,
+            most: ANY,
+        },
+        3 | 11 => Operands {
+            count: 1,
+            most: SMALL,
+        },
+        8 | 9 => Operands {
+            count: 2,
+            most: ANY,
+        },
+        10 => Operands {
+            count: 2,
+            most: SMALL,
+        },
+        _ => Operands { count: 0, most: 0 },
+    }
 }
 
 fn narrow(n: u64) -> u32
@@ -243,23 +204,39 @@ fn read_operands(bytes: &[u8], at: usize, more: bool, code: u64, place: usize) -
     }
 }
 
+// No code stands at this place: reading stops there, unless a number is only begun and more bytes may follow.
+fn refuse_code(bytes: &[u8], at: usize, more: bool) -> Reading
+    requires { ⌜ NoCode (now bytes) at ⌝ }
+    ensures { λ r. ⌜ CallRead (drop at (now (bytes .entry))) at more r ⌝ }
+{
+    if groups::begun(bytes, at) {
+        if more {
+            return Reading::More;
+        }
+        return Reading::Stop(at);
+    }
+    Reading::Stop(at)
+}
+
 // Reads the call that begins at this place. More bytes may follow those that are lent.
 pub fn read_call(bytes: &[u8], at: usize, more: bool) -> Reading
     ensures { λ r. ⌜ CallRead (drop at (now (bytes .entry))) at more r ⌝ }
 {
-    let numbers = read_numbers(bytes, at, more, 1, [13, 0, 0]);
-    match numbers {
-        Numbers::Whole(three, place) => read_operands(bytes, at, more, three.first, place),
-        Numbers::Stop(stop) => Reading::Stop(stop),
-        Numbers::More => Reading::More,
+    if bytes.len() <= at {
+        return refuse_code(bytes, at, more);
     }
+    let code = groups::wide(bytes[at]);
+    if 13 < code {
+        return refuse_code(bytes, at, more);
+    }
+    read_operands(bytes, at, more, code, at + 1)
 }
 
 // Reads the header.
 pub fn read_header(bytes: &[u8], more: bool) -> HeaderReading
     ensures { λ r. ⌜ HeaderRead (now (bytes .entry)) more r ⌝ }
 {
-    let numbers = read_numbers(bytes, 0, more, 2, [SMALL, SMALL, 0]);
+    let numbers = read_numbers(bytes, 0, more, 2, SMALL);
     match numbers {
         Numbers::Whole(three, place) => HeaderReading::Header(
             Header {

@@ -1,13 +1,13 @@
 -- `groups::read` meets its contract. The loop's invariant: the bytes behind have their high bits set (`Going`). The measure is what is left of the bytes.
 -- Assumes nothing.
-use Prim.Native.Nat.{_+_, _-_, _*_, _^_, _≤_, _<_}
+use Prim.Native.Nat.{_+_, _-_, _*_, _^_, _<_}
 use mathlib.Core.Path.{_≡_, sym, ap, _∙_}
-use mathlib.Core.Logic.{inr}
+use mathlib.Core.Logic.{inr, ⊎-elim}
 use native.Mathlib.Omega.{arith}
-use native.Mathlib.Nat.{div-lt-iff-lt-mul, le-div-iff-mul-le}
 use lib.ListN.{length, drop, getD, length-drop}
 use lib.Seq.{getD-drop}
 use borrow.Author.Needs.{needs}
+use borrow.Author.Tests.{ltb-true, ltb-false}
 use Rattle.groups.proofs.Scanning as scan
 use Rattle.groups.proofs.read.Statement.{statement}
 use Rattle.groups.proofs.read.Tie as tie
@@ -46,51 +46,36 @@ returns c = scan.going-one (at-byte (c .before .before)) (c .before .if1 .taken)
 returns-2 : tie.Need-returns-2 Inv-loop μ-loop
 returns-2 c = scan.going-zero (at-byte (c .before .before .before)) (c .if3 .taken) (c .before .if2 .left)
 
-sub-if4 : tie.Need-sub-if4 Inv-loop μ-loop
-sub-if4 c = let g = at-byte (c .before .before .before) .going in omega (arith, scan.going-below g, scan.going-fits g)
-
-div-if4 : tie.Need-div-if4 Inv-loop μ-loop
-div-if4 c = let g = at-byte (c .before .before .before) .going in omega (arith, scan.going-below g)
-
--- what the test on the quotient tells
-large : (c : tie.Then4 Inv-loop μ-loop) → 2 ^ 64 ≤ c .before .before .before .before .before .before .before .loop .sum + c .before .before .before .before .wide .result * c .before .before .before .before .before .before .before .loop .power
-large c =
-    let g = at-byte (c .before .before .before .before) .going in
-    let p : 0 < c .before .before .before .before .before .before .before .loop .power = omega (arith, scan.going-below g) in
-    omega (arith, div-lt-iff-lt-mul p .0 (c .if4 .taken))
-
-small : (c : tie.Else4 Inv-loop μ-loop) → c .before .before .before .before .before .before .before .loop .sum + c .before .before .before .before .wide .result * c .before .before .before .before .before .before .before .loop .power < 2 ^ 64
-small c =
-    let g = at-byte (c .before .before .before .before) .going in
-    let p : 0 < c .before .before .before .before .before .before .before .loop .power = omega (arith, scan.going-below g) in
-    omega (arith, le-div-iff-mul-le p .0 (c .if4 .left), scan.going-below g, scan.going-fits g)
-
 returns-3 : tie.Need-returns-3 Inv-loop μ-loop
-returns-3 c = scan.going-large (at-byte (c .before .before .before .before)) (c .before .before .before .if1 .taken) (large c)
+returns-3 c = let h = at-byte (c .before .before .before .before .before) in scan.going-large h (c .before .before .before .before .if1 .taken) (scan.tenth-large h (c .before .if4 .taken) (ltb-true 1 _ (c .if5 .taken)))
 
-mul-t13 : tie.Need-mul-t13 Inv-loop μ-loop
-mul-t13 c = record { fits = omega (arith, small c) }
+-- a last byte fits, whether it is the tenth or comes before it
+small : (c : tie.Joined4 Inv-loop μ-loop) → c .before .before .before .before .before .before .before .loop .sum + c .before .before .before .before .wide .result * c .before .before .before .before .before .before .before .loop .power < 2 ^ 64
+small c = let h = at-byte (c .before .before .before .before) in ⊎-elim (λ t. scan.tenth-fits h (t .0 .taken) (ltb-false 1 _ (t .1 .left))) (λ e. scan.early-fits h (e .left) (c .before .before .before .if1 .taken)) (c .if4 .came)
 
-add-t14 : tie.Need-add-t14 Inv-loop μ-loop
-add-t14 c = record { fits = omega (arith, small c) }
+mul-t15 : tie.Need-mul-t15 Inv-loop μ-loop
+mul-t15 c = record { fits = omega (arith, small c) }
 
-add-t15 : tie.Need-add-t15 Inv-loop μ-loop
-add-t15 c = let g = at-byte (c .before .before .before .before) .going in record { fits = omega (arith, g .few) }
+add-t16 : tie.Need-add-t16 Inv-loop μ-loop
+add-t16 c = record { fits = omega (arith, small c) }
+
+add-t17 : tie.Need-add-t17 Inv-loop μ-loop
+add-t17 c = let g = at-byte (c .before .before .before .before) .going in record { fits = omega (arith, g .few) }
 
 returns-4 : tie.Need-returns-4 Inv-loop μ-loop
 returns-4 c = scan.going-of (at-byte (c .before .before .before .before)) (c .before .before .before .if1 .taken) (inr (c .before .if3 .left)) (small c)
 
 returns-5 : tie.Need-returns-5 Inv-loop μ-loop
-returns-5 c = scan.going-long (at-byte (c .before .before)) (c .if5 .taken) (c .before .if1 .left)
+returns-5 c = scan.going-long (at-byte (c .before .before)) (c .if6 .taken) (c .before .if1 .left)
 
 mul-sum : tie.Need-mul-sum Inv-loop μ-loop
-mul-sum c = let h = at-byte (c .before .before) in record { fits = omega (arith, scan.next-fits h (c .if5 .left)) }
+mul-sum c = let h = at-byte (c .before .before) in record { fits = omega (arith, scan.next-fits h (c .if6 .left)) }
 
 add-sum : tie.Need-add-sum Inv-loop μ-loop
-add-sum c = let h = at-byte (c .before .before) in record { fits = omega (arith, scan.next-fits h (c .if5 .left), scan.going-below (h .going), scan.going-small (h .going) (c .if5 .left)) }
+add-sum c = let h = at-byte (c .before .before) in record { fits = omega (arith, scan.next-fits h (c .if6 .left), scan.going-below (h .going), scan.going-small (h .going) (c .if6 .left)) }
 
 mul-power : tie.Need-mul-power Inv-loop μ-loop
-mul-power c = let h = at-byte (c .before .before) in record { fits = omega (arith, scan.going-small (h .going) (c .if5 .left)) }
+mul-power c = let h = at-byte (c .before .before) in record { fits = omega (arith, scan.going-small (h .going) (c .if6 .left)) }
 
 add-count : tie.Need-add-count Inv-loop μ-loop
 add-count c = let h = at-byte (c .before .before) in record { fits = omega (arith, h .going .few) }
@@ -102,7 +87,7 @@ loop-less : tie.Need-loop-less Inv-loop μ-loop
 loop-less c = search needs
 
 loop-again : tie.Need-loop-again Inv-loop μ-loop
-loop-again c = (omega arith, scan.going-next (at-byte (c .before .before)) (c .if5 .left) (c .before .if1 .left))
+loop-again c = (omega arith, scan.going-next (at-byte (c .before .before)) (c .if6 .left) (c .before .if1 .left))
 
 returns-6 : tie.Need-returns-6 Inv-loop μ-loop
 returns-6 c = scan.going-out (c .before .loop .inv .1) (simp length-drop (omega arith))
@@ -118,12 +103,10 @@ read-spec =
     wide-requires
     returns
     returns-2
-    sub-if4
-    div-if4
     returns-3
-    mul-t13
-    add-t14
-    add-t15
+    mul-t15
+    add-t16
+    add-t17
     returns-4
     returns-5
     mul-sum

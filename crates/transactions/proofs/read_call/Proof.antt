@@ -1,46 +1,48 @@
 -- `transactions::read_call` meets its contract.
 -- Assumes nothing.
-use mathlib.Core.Path.{subst}
-use mathlib.Core.List.{[], _∷_}
-use Rattle.transactions.proofs.Joining.{code-whole, code-stop, code-waits}
+use native.Mathlib.Omega.{arith}
+use Rattle.transactions.proofs.Joining.{code-byte}
 use borrow.Author.Needs.{needs}
 use Rattle.transactions.proofs.read_call.Statement.{statement}
 use Rattle.transactions.proofs.read_call.Tie as tie
-use Rattle.transactions.specs.Inner.{NumbersRead}
 
-read-numbers-requires : tie.Need-read-numbers-requires
-read-numbers-requires c κs = search needs
-
-enum-known-numbers : tie.Need-enum-known-numbers
-enum-known-numbers c = search needs
-
-read-operands-requires : tie.Need-read-operands-requires
-read-operands-requires c κs = code-whole (subst (NumbersRead (13 ∷ []) _ _ _) (c .before .numbers .given .1) (c .before .before .before .read-numbers .ensures))
-
-enum-known-numbers-2 : tie.Need-enum-known-numbers-2
-enum-known-numbers-2 c = search needs
-
-enum-told : tie.Need-enum-told
-enum-told c = search needs
+refuse-code-requires : tie.Need-refuse-code-requires
+refuse-code-requires c κs = search needs
 
 returns : tie.Need-returns
 returns c = search needs
 
+shared-slice-read-wide : tie.Need-shared-slice-read-wide
+shared-slice-read-wide c = search needs
+
+wide-requires : tie.Need-wide-requires
+wide-requires c κs = search needs
+
+refuse-code-requires-2 : tie.Need-refuse-code-requires-2
+refuse-code-requires-2 c κs = search needs
+
 returns-2 : tie.Need-returns-2
-returns-2 c = code-stop (subst (NumbersRead (13 ∷ []) _ _ _) (c .before .numbers2 .given .1) (c .before .before .before .read-numbers .ensures))
+returns-2 c = search needs
+
+add-read-operands : tie.Need-add-read-operands
+add-read-operands c = search needs
+
+read-operands-requires : tie.Need-read-operands-requires
+read-operands-requires c κs = code-byte _ _ (omega arith) (c .before .wide .ensures) (omega arith)
 
 returns-3 : tie.Need-returns-3
-returns-3 c = code-waits (subst (NumbersRead (13 ∷ []) _ _ _) (c .enum-told .given .1) (c .before .before .read-numbers .ensures))
+returns-3 c = search needs
 
 pub read-call-spec : {M : Type 1} → statement M
 read-call-spec =
     tie.close
     (tie.spec
-    read-numbers-requires
-    enum-known-numbers
-    read-operands-requires
-    enum-known-numbers-2
-    enum-told
+    refuse-code-requires
     returns
+    shared-slice-read-wide
+    wide-requires
+    refuse-code-requires-2
     returns-2
+    add-read-operands
+    read-operands-requires
     returns-3)

@@ -22,19 +22,19 @@ enum-known-numbers c = search needs
 
 -- what was read, over the limits of the code
 abbrev Known : tie.After-read-numbers → Numbers → Type 0
-Known c r = NumbersRead (operandsOf (c .before .before .before .before .args .code)) (drop (c .before .before .before .before .args .place) (c .before .before .before .before .args .bytes .now)) (c .before .before .before .before .args .place) (c .before .before .before .before .args .more) r
+Known c r = NumbersRead (operandsOf (c .before .before .before .args .code)) (drop (c .before .before .before .args .place) (c .before .before .before .args .bytes .now)) (c .before .before .before .args .place) (c .before .before .before .args .more) r
 
 read : (c : tie.After-read-numbers) → Known c (c .read-numbers .result)
-read c = rw (c .before .before .operands-of .ensures .limits) at (c .read-numbers .ensures)
+read c = rw (c .before .operands-of .ensures .limits) at (c .read-numbers .ensures)
 
-whole : (c : tie.After-numbers) → WholeNumbers (operandsOf (c .before .before .before .before .before .before .args .code)) (drop (c .before .before .before .before .before .before .args .place) (c .before .before .before .before .before .before .args .bytes .now)) (c .before .before .before .before .before .before .args .place) (c .numbers .given .0 .0) (c .numbers .given .0 .1 .0)
+whole : (c : tie.After-numbers) → WholeNumbers (operandsOf (c .before .before .before .before .before .args .code)) (drop (c .before .before .before .before .before .args .place) (c .before .before .before .before .before .args .bytes .now)) (c .before .before .before .before .before .args .place) (c .numbers .given .0 .0) (c .numbers .given .0 .1 .0)
 whole c = subst (Known (c .before .before)) (c .numbers .given .1) (read (c .before .before))
 
 call-of-requires : tie.Need-call-of-requires
-call-of-requires c κs = operands-whole _ (c .before .before .before .before .before .before .before .pre) (whole (c .before)) .within
+call-of-requires c κs = operands-whole _ (c .before .before .before .before .before .before .pre) (whole (c .before)) .within
 
 sub-t15 : tie.Need-sub-t15
-sub-t15 c = omega (arith, operands-end _ (c .before .before .before .before .before .before .before .before .pre) (whole (c .before .before)))
+sub-t15 c = omega (arith, operands-end _ (c .before .before .before .before .before .before .before .pre) (whole (c .before .before)))
 
 enum-known-numbers-2 : tie.Need-enum-known-numbers-2
 enum-known-numbers-2 c = search needs
@@ -43,13 +43,13 @@ enum-told : tie.Need-enum-told
 enum-told c = search needs
 
 returns : tie.Need-returns
-returns c = operands-call _ (c .before .before .before .before .before .before .before .before .pre) _ (whole (c .before .before)) (c .call-of .ensures)
+returns c = operands-call _ (c .before .before .before .before .before .before .before .pre) _ (whole (c .before .before)) (c .call-of .ensures)
 
 returns-2 : tie.Need-returns-2
-returns-2 c = operands-stop _ (c .before .before .before .before .before .before .before .pre) (subst (Known (c .before .before .before)) (c .before .numbers2 .given .1) (read (c .before .before .before)))
+returns-2 c = operands-stop _ (c .before .before .before .before .before .before .pre) (subst (Known (c .before .before .before)) (c .before .numbers2 .given .1) (read (c .before .before .before)))
 
 returns-3 : tie.Need-returns-3
-returns-3 c = operands-waits _ (c .before .before .before .before .before .before .pre) (subst (Known (c .before .before)) (c .enum-told .given .1) (read (c .before .before)))
+returns-3 c = operands-waits _ (c .before .before .before .before .before .pre) (subst (Known (c .before .before)) (c .enum-told .given .1) (read (c .before .before)))
 
 pub read-operands-spec : {M : Type 1} → statement M
 read-operands-spec =
