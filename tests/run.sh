@@ -1,19 +1,19 @@
 #!/usr/bin/env bash
-# Builds the second program, runs its tests, sees what a corpus of schedule files reaches and, once
-# the program `schedule` is built, compares both programs over that corpus. Once the program `damage`
-# is built, compares its verdicts on damaged tables with those of the second program. The last line
-# is `N passed, M failed`; a step that breaks counts as failed. Exits with 0 exactly when M is 0.
+# Builds the second program, runs its tests, sees what a corpus of schedule files reaches and compares
+# the program `schedule` with the second program over that corpus (CORPUS says how many files), then the
+# verdicts of the program `damage` on damaged tables; then runs tests/schedule.sh and tests/hosts.sh, and
+# sees that the walks that a program writes are as it writes them. Needs the built programs (rt check).
+# The last line is `N passed, M failed`; a step that breaks counts as failed. Exits with 0 exactly when
+# M is 0.
 set -u
 cd "$(dirname "$0")/.." || exit 1
 
 export CARGO_TARGET_DIR="$PWD/target/second"
 programs="$CARGO_TARGET_DIR/release"
-schedule="target/bin/schedule"
-damage="target/bin/damage"
-corpus_size=2200
+corpus_size=${CORPUS:-2200}
 corpus_seed=1
-# No program may take longer for the whole corpus.
-most_seconds=120
+# No program may take longer for the whole corpus: under an emulator (tools/run) each start takes a while.
+most_seconds=900
 
 passed=0
 failed=0
@@ -68,16 +68,17 @@ check_coverage() {
   fi
 }
 
-# Runs a program over every file of a corpus and keeps what it writes. A panic or a signal, which
+# Runs a command over every file of a corpus and keeps what it writes. A panic or a signal, which
 # gives a status above 100, shall not pass for an answer.
 answer_corpus() {
-  local program=$1 corpus=$2 answers=$3 file status
+  local corpus=$1 answers=$2 file status
+  shift 2
   mkdir "$answers" || return
   for file in "$corpus"/*; do
-    { "$program" <"$file" >"$answers/${file##*/}"; } 2>/dev/null
+    { "$@" <"$file" >"$answers/${file##*/}"; } 2>/dev/null
     status=$?
     if [ "$status" -gt 100 ]; then
-      echo "$program: exit status $status" >>"$answers/${file##*/}"
+      echo "$*: exit status $status" >>"$answers/${file##*/}"
     fi
   done
 }
@@ -87,12 +88,8 @@ export -f answer_corpus
 # A program that runs out of time leaves the rest of its answers out, so these differ too.
 compare_schedule() {
   local differing
-  if [ ! -x "$schedule" ]; then
-    echo "$schedule is not built yet: nothing to compare"
-    return
-  fi
-  timeout "$most_seconds" bash -c 'answer_corpus "$@"' - "$schedule" "$work/corpus" "$work/schedule" &
-  answer_corpus "$programs/second" "$work/corpus" "$work/second"
+  timeout "$most_seconds" bash -c 'answer_corpus "$@"' - "$work/corpus" "$work/schedule" tools/run schedule &
+  answer_corpus "$work/corpus" "$work/second" "$programs/second"
   wait "$!" || echo "tests: schedule did not get through the corpus"
   diff -rq "$work/second" "$work/schedule" >"$work/differing"
   differing=$(wc -l <"$work/differing")
@@ -104,15 +101,33 @@ compare_schedule() {
 
 # Every cell of sound tables is damaged in turn: both programs must judge each the same.
 compare_verdicts() {
-  if [ ! -x "$damage" ]; then
-    echo "$damage is not built yet: nothing to compare"
-    return
-  fi
-  if printf a | timeout "$most_seconds" "$damage" >"$work/verdicts.txt" &&
+  if printf a | timeout "$most_seconds" tools/run damage >"$work/verdicts.txt" &&
     "$programs/verdicts" <"$work/verdicts.txt"; then
     passed=$((passed + 1))
   else
     fail "the verdicts on damaged tables differ"
+  fi
+}
+
+# Runs another script of tests and adds what its last line says.
+include() {
+  local line
+  "$@" 2>&1 | tee "$work/included.log"
+  line=$(tail -n 1 "$work/included.log")
+  if [[ $line =~ ^([0-9]+)\ passed,\ ([0-9]+)\ failed$ ]]; then
+    passed=$((passed + BASH_REMATCH[1]))
+    failed=$((failed + BASH_REMATCH[2]))
+  else
+    fail "$* did not say how many tests passed"
+  fi
+}
+
+# The walks of a crate's lent forms stand in the tree as tools/lent writes them.
+check_walks() {
+  if tools/lent/lent.py "$1" --check; then
+    passed=$((passed + 1))
+  else
+    fail "the walks of $1 are not as tools/lent/lent.py writes them"
   fi
 }
 
@@ -128,4 +143,7 @@ else
   fail "the corpus could not be written"
 fi
 compare_verdicts
+check_walks lent
+include tests/schedule.sh
+include env -u CARGO_TARGET_DIR tests/hosts.sh
 finish

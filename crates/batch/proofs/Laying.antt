@@ -1,6 +1,6 @@
 -- A call of a list behind others: its cells and its pairs in the whole buffers.
 -- Assumes nothing.
-use mathlib.Core.Path.{_≡_, ap, _∙_}
+use mathlib.Core.Path.{_≡_, sym, ap, _∙_}
 use mathlib.Core.List.{List, _++_}
 use Prim.Native.Nat.{ℕ, _≤_, _*_}
 use native.Mathlib.Omega.{arith}
@@ -10,7 +10,8 @@ use Rattle.lists.specs.Buffers.{written}
 use Rattle.transactions.specs.declared.Call.{Call}
 use Rattle.model.specs.Plain.{Pair}
 use Rattle.tables.specs.Tables.{Tables}
-use Rattle.batch.specs.Turns.{room, pairsOf, keysIn, valuesIn, Turned}
+use Rattle.batch.specs.declared.Kind.{Kind}
+use Rattle.batch.specs.Turns.{room, pairsOf, keysIn, valuesIn, Turned, callOf}
 use Rattle.batch.specs.Lists.{Room, Laid}
 use Rattle.batch.proofs.Parts.{part-written}
 
@@ -31,3 +32,8 @@ turn-laid {t} {call = call} {calls = calls} {pairs = pairs} answers ks vs r k e 
       keysOut = rw (u .keysOut) (part-written ks pairs k (keysIn (pairsOf t call)) (omega arith) (omega (arith, r .for-keys)));
       valuesOut = rw (u .valuesOut) (part-written vs pairs k (valuesIn (pairsOf t call)) (omega arith) (omega (arith, r .for-values)));
     }
+
+-- LAW: a call laid down as one of its kind
+pub kind-laid : {t t′ : Tables} {call : Call} {k k′ : Kind} {calls pairs : ℕ} {answers ks vs answers′ ks′ vs′ : List ℤ} {count : ℕ} → callOf k ≡ call → k ≡ k′
+    → Laid t t′ (callOf k′) calls pairs answers ks vs answers′ ks′ vs′ count → Laid t t′ call calls pairs answers ks vs answers′ ks′ vs′ count
+kind-laid e g l = rw (sym e, g) l

@@ -66,17 +66,21 @@ tables-snoc : (t : Tables) (cs : List Call) (c : Call) → tablesAfter t (cs ++ 
 tables-snoc t [] c = refl
 tables-snoc t (d ∷ cs) c = tables-snoc (turnTables t d) cs c
 
+-- what is made call by call, with one more call
+module _ {A B : Type 0} (each : A → List B) (all : List A → List B) (no-more : all [] ≡ []) (first : (x : A) (xs : List A) → all (x ∷ xs) ≡ each x ++ all xs) where
+  one-more : (xs : List A) (x : A) → all (xs ++ (x ∷ [])) ≡ all xs ++ each x
+  one-more [] x = first x [] ∙ (ap (λ l. each x ++ l) no-more ∙ (append-nil (each x) ∙ sym (ap (λ l. l ++ each x) no-more)))
+  one-more (y ∷ xs) x =
+      first y (xs ++ (x ∷ [])) ∙ (ap (λ l. each y ++ l) (one-more xs x) ∙ (sym (append-assoc (each y) (all xs) (each x)) ∙ sym (ap (λ l. l ++ each x) (first y xs))))
+
 bytes-snoc : (cs : List Call) (c : Call) → bytesIn (cs ++ (c ∷ [])) ≡ bytesIn cs ++ bytesOf (numbersOf c)
-bytes-snoc [] c = append-nil (bytesOf (numbersOf c))
-bytes-snoc (d ∷ cs) c = ap (λ l. bytesOf (numbersOf d) ++ l) (bytes-snoc cs c) ∙ sym (append-assoc (bytesOf (numbersOf d)) (bytesIn cs) (bytesOf (numbersOf c)))
+bytes-snoc = one-more (λ (c : Call). bytesOf (numbersOf c)) bytesIn refl (λ c cs. refl)
 
 cells-snoc : (hs : List (C.Call × C.Answer)) (h : C.Call × C.Answer) → cellsIn (hs ++ (h ∷ [])) ≡ cellsIn hs ++ cellsOf (C.code (h .0)) (h .1)
-cells-snoc [] h = append-nil (cellsOf (C.code (h .0)) (h .1))
-cells-snoc (g ∷ hs) h = ap (λ l. cellsOf (C.code (g .0)) (g .1) ++ l) (cells-snoc hs h) ∙ sym (append-assoc (cellsOf (C.code (g .0)) (g .1)) (cellsIn hs) (cellsOf (C.code (h .0)) (h .1)))
+cells-snoc = one-more (λ (h : C.Call × C.Answer). cellsOf (C.code (h .0)) (h .1)) cellsIn refl (λ h hs. refl)
 
 pairs-snoc : (hs : List (C.Call × C.Answer)) (h : C.Call × C.Answer) → pairsIn (hs ++ (h ∷ [])) ≡ pairsIn hs ++ C.pairsIn (h .1)
-pairs-snoc [] h = append-nil (C.pairsIn (h .1))
-pairs-snoc (g ∷ hs) h = ap (λ l. C.pairsIn (g .1) ++ l) (pairs-snoc hs h) ∙ sym (append-assoc (C.pairsIn (g .1)) (pairsIn hs) (C.pairsIn (h .1)))
+pairs-snoc = one-more (λ (h : C.Call × C.Answer). C.pairsIn (h .1)) pairsIn refl (λ h hs. refl)
 
 -- LAW: an answer has five cells
 pub cells-five : (code : ℕ) (a : C.Answer) → length (cellsOf code a) ≡ 5

@@ -35,9 +35,10 @@ use Rattle.tables.proofs.Ranging.{ticketAt}
 use Rattle.ranges.proofs.WalkLaw.{pairAt, paired-written}
 use Rattle.ranges.proofs.FastLaw.{fast-meets}
 use Rattle.ranges.proofs.StepLaw.{step-meets}
+use Rattle.batch.specs.declared.Reply.{Reply}
 use Rattle.batch.specs.declared.Turn.{Turn}
 use Rattle.batch.specs.Cells.{cellsOf, rangedCount, steppedCount}
-use Rattle.batch.specs.Turns.{room, meant, turnTables, keysIn, valuesIn, Turned, turnOf, FastTurn, StepTurn}
+use Rattle.batch.specs.Turns.{room, meant, turnTables, keysIn, valuesIn, Turned, turnOf, FastReply, StepTurn}
 use Rattle.batch.proofs.Parts.{front-written}
 use Rattle.batch.proofs.Turning.{turned-by, back, fits, told}
 
@@ -106,8 +107,8 @@ fast-hands keys values ks vs ns (Ranged.Refused n) w = record { pairs = refl; co
 
 -- LAW: a fast range with the places of one call
 pub fast-turned : (t : Tables) → Sound t → (l h : ℤ) → mag l < 9223372036854775808 → mag h < 9223372036854775808 → {call : Call} → call ≡ Fast l h → (ks vs : List ℤ) → length ks ≡ room → length vs ≡ room
-    → {ks′ vs′ : List ℤ} {r : Turn} → FastTurn (t .keys) (t .values) (t .rows) (t .tickets) (t .coordinator) (back l) (back h) ks vs ks′ vs′ r
-    → Turned t (lent (t .keys) (t .values) (t .rows) (t .buckets) (r .tickets) (r .coordinator)) call ks vs ks′ vs′ (r .cells) (r .pairs)
+    → {ks′ vs′ : List ℤ} {r : Reply} → FastReply (t .keys) (t .values) (t .rows) (t .coordinator .counter .0) (back l) (back h) ks vs ks′ vs′ r
+    → Turned t t call ks vs ks′ vs′ (r .cells) (r .pairs)
 unfolding turnTables
 fast-turned t S l h f g q ks vs m n p =
     let counter = t .coordinator .counter .0 in

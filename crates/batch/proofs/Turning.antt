@@ -51,9 +51,10 @@ use Rattle.ranges.specs.Open.{openingOf}
 use Rattle.ranges.specs.Close.{closingOf}
 use Rattle.ranges.proofs.OpenLaw.{open-meets}
 use Rattle.ranges.proofs.CloseLaw.{close-meets}
+use Rattle.batch.specs.declared.Reply.{Reply}
 use Rattle.batch.specs.declared.Turn.{Turn}
 use Rattle.batch.specs.Cells.{cellsOf}
-use Rattle.batch.specs.Turns.{room, meant, turnTables, answerOf, keysIn, valuesIn, Turned, turnOf, HandTurn, SweepTurn, openTurn, closeTurn}
+use Rattle.batch.specs.Turns.{room, meant, turnTables, answerOf, keysIn, valuesIn, Turned, replyOf, HandTurn, SweepTurn, openTurn, closeTurn}
 
 -- ---- a turn from a call that meets the model
 
@@ -80,10 +81,8 @@ pub turned-plain : {t t′ : Tables} {call : Call} {a : C.Answer} {cells : List 
 turned-plain ks vs e m p n =
     turned-by e m p (rw n) (omega arith) (rw n (sym (written-none ks 0))) (rw n (sym (written-none vs 0)))
 
--- LAW: as the code makes such a turn
-pub as-plain : {t : Tables} {call : Call} {ks vs cells : List ℤ} {keys′ : List ℕ} {values′ : List ℤ} {rows′ buckets′ : List ℕ} {ts : List Ticket} {c : Coordinator} {r : Turn}
-    → r ≡ turnOf cells 0 ts c → Turned t (lent keys′ values′ rows′ buckets′ ts c) call ks vs ks vs cells 0
-    → Turned t (lent keys′ values′ rows′ buckets′ (r .tickets) (r .coordinator)) call ks vs ks vs (r .cells) (r .pairs)
+-- LAW: as the code makes such a reply
+pub as-plain : {t t′ : Tables} {call : Call} {ks vs cells : List ℤ} {r : Reply} → r ≡ replyOf cells 0 → Turned t t′ call ks vs ks vs cells 0 → Turned t t′ call ks vs ks vs (r .cells) (r .pairs)
 as-plain e p = rw e p
 
 -- ---- answers with no pairs

@@ -28,6 +28,10 @@ use Rattle.ranges.specs.Walk.{keysOf, valuesOf}
 use Rattle.ranges.specs.Close.{closedTables}
 use Rattle.tables.specs.declared.Ticket.{Ticket}
 use Rattle.tables.specs.declared.Coordinator.{Coordinator}
+use Rattle.batch.specs.declared.Quiet as Q
+use Rattle.batch.specs.declared.Ticketed as T
+use Rattle.batch.specs.declared.Kind.{Kind}
+use Rattle.batch.specs.declared.Reply.{Reply}
 use Rattle.batch.specs.declared.Turn.{Turn}
 use Rattle.batch.specs.Cells.{cellsOf, rangedCount, steppedCount}
 
@@ -92,7 +96,37 @@ pub record Turned (t t′ : Tables) (call : Call) (ks vs ks′ vs′ cells : Lis
   pub keysOut : ks′ ≡ written ks 0 (keysIn (pairsOf t call))
   pub valuesOut : vs′ ≡ written vs 0 (valuesIn (pairsOf t call))
 
+-- ---- a call by its kind
+
+-- the call that a quiet one is, a ticketed one is
+abbrev pub quietCall : Q.Quiet → Call
+quietCall (Q.Quiet.Lookup k) = Lookup k
+quietCall (Q.Quiet.Insert k v coin) = Insert k v coin
+quietCall (Q.Quiet.Remove k) = Remove k
+quietCall (Q.Quiet.Ceil k) = Ceil k
+quietCall (Q.Quiet.Floor k) = Floor k
+quietCall (Q.Quiet.Succ k) = Succ k
+quietCall (Q.Quiet.Pred k) = Pred k
+quietCall (Q.Quiet.Fast l r) = Fast l r
+quietCall Q.Quiet.Tally = Tally
+
+abbrev pub ticketedCall : T.Ticketed → Call
+ticketedCall (T.Ticketed.HandOver n) = HandOver n
+ticketedCall (T.Ticketed.Open l r) = Open l r
+ticketedCall (T.Ticketed.Step v n) = Step v n
+ticketedCall (T.Ticketed.Close v) = Close v
+ticketedCall T.Ticketed.Sweep = Sweep
+
+-- the call of a kind
+abbrev pub callOf : Kind → Call
+callOf (Kind.Quiet q) = quietCall q
+callOf (Kind.Ticketed t) = ticketedCall t
+
 -- ---- the calls that hold tickets, a coordinator or pairs, each as a turn
+
+-- a reply of these parts
+abbrev pub replyOf : List ℤ → ℕ → Reply
+replyOf cells pairs = record { cells = cells; pairs = pairs }
 
 -- a turn of these parts
 abbrev pub turnOf : List ℤ → ℕ → List Ticket → Coordinator → Turn
@@ -116,10 +150,10 @@ abbrev pub closeTurn : S.Close → Turn
 closeTurn r = turnOf (cellsOf 11 (ofClosed (r .answer))) 0 (r .tickets) (r .coordinator)
 
 -- a fast range
-pub record FastTurn (keys : List ℕ) (values : List ℤ) (rows : List ℕ) (ts : List Ticket) (c : Coordinator) (low high : ℤ) (ks vs ks′ vs′ : List ℤ) (r : Turn) : Type 0 where
+pub record FastReply (keys : List ℕ) (values : List ℤ) (rows : List ℕ) (counter : ℕ) (low high : ℤ) (ks vs ks′ vs′ : List ℤ) (r : Reply) : Type 0 where
   pub answer : Ranged
-  pub by : RangedBy keys values rows (c .counter .0) low high ks vs ks′ vs′ answer
-  pub is : r ≡ turnOf (cellsOf 8 (ofRanged [] [] answer)) (rangedCount answer) ts c
+  pub by : RangedBy keys values rows counter low high ks vs ks′ vs′ answer
+  pub is : r ≡ replyOf (cellsOf 8 (ofRanged [] [] answer)) (rangedCount answer)
 
 -- a step with so many places, at the front of both buffers
 pub record StepTurn (keys : List ℕ) (values : List ℤ) (rows : List ℕ) (ts : List Ticket) (c : Coordinator) (v places : ℕ) (ks vs ks′ vs′ : List ℤ) (r : Turn) : Type 0 where

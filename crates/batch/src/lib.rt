@@ -19,7 +19,7 @@ use transactions::Call;
 use transactions::Reading;
 ghost use mathlib.Core.Path.{_≡_};
 ghost use mathlib.Core.List.{[], _∷_};
-ghost use Prim.Native.Nat.{_+_, _≤_, min};
+ghost use Prim.Native.Nat.{_+_, _*_, _≤_, min};
 ghost use lib.ListN.{length};
 ghost use lib.IntN.{pos};
 ghost use Rattle.lists.specs.Tests.{Says};
@@ -38,7 +38,7 @@ ghost use Rattle.ranges.specs.Open.{opening};
 ghost use Rattle.ranges.specs.Step.{StepReady};
 ghost use Rattle.ranges.specs.Close.{CloseReady, closing};
 ghost use Rattle.batch.specs.Cells.{cellsOf, rangedCount, steppedCount};
-ghost use Rattle.batch.specs.Turns.{room, Turned, turnOf, HandTurn, SweepTurn, openTurn, closeTurn, FastTurn, StepTurn};
+ghost use Rattle.batch.specs.Turns.{room, quietCall, ticketedCall, callOf, Turned, replyOf, turnOf, HandTurn, SweepTurn, openTurn, closeTurn, FastReply, StepTurn};
 ghost use Rattle.batch.specs.Lists.{Room, Comes, Laid, Listed, Ran, inputOf, outputOf};
 
 // How many places of the pair buffers a call has.
@@ -71,7 +71,7 @@ fn numbers(code: u32, a: u32, b: u32, c: u32) -> [i64; 5]
     [integer(code), 0, integer(a), integer(b), integer(c)]
 }
 
-fn found_cells(answer: Found) -> [i64; 5]
+pub fn found_cells(answer: Found) -> [i64; 5]
     ensures { λ r. ⌜ r ≡ cellsOf 0 (ofFound answer) ⌝ }
 {
     match answer {
@@ -80,7 +80,7 @@ fn found_cells(answer: Found) -> [i64; 5]
     }
 }
 
-fn inserted_cells(answer: Inserted) -> [i64; 5]
+pub fn inserted_cells(answer: Inserted) -> [i64; 5]
     ensures { λ r. ⌜ r ≡ cellsOf 1 (ofInserted answer) ⌝ }
 {
     match answer {
@@ -89,7 +89,7 @@ fn inserted_cells(answer: Inserted) -> [i64; 5]
     }
 }
 
-fn removed_cells(answer: Removed) -> [i64; 5]
+pub fn removed_cells(answer: Removed) -> [i64; 5]
     ensures { λ r. ⌜ r ≡ cellsOf 2 (ofRemoved answer) ⌝ }
 {
     match answer {
@@ -98,7 +98,7 @@ fn removed_cells(answer: Removed) -> [i64; 5]
     }
 }
 
-fn handed_cells(answer: Handed) -> [i64; 5]
+pub fn handed_cells(answer: Handed) -> [i64; 5]
     ensures { λ r. ⌜ r ≡ cellsOf 3 (ofHanded answer) ⌝ }
 {
     match answer {
@@ -109,7 +109,7 @@ fn handed_cells(answer: Handed) -> [i64; 5]
 }
 
 // Of ceil, floor, succ and pred, by their code.
-fn nearest_cells(code: u32, answer: Nearest) -> [i64; 5]
+pub fn nearest_cells(code: u32, answer: Nearest) -> [i64; 5]
     ensures { λ r. ⌜ r ≡ cellsOf code (ofNearest answer) ⌝ }
 {
     match answer {
@@ -118,7 +118,7 @@ fn nearest_cells(code: u32, answer: Nearest) -> [i64; 5]
     }
 }
 
-fn ranged_cells(answer: Ranged) -> [i64; 5]
+pub fn ranged_cells(answer: Ranged) -> [i64; 5]
     ensures { λ r. ⌜ r ≡ cellsOf 8 (ofRanged [] [] answer) ⌝ }
 {
     match answer {
@@ -127,7 +127,7 @@ fn ranged_cells(answer: Ranged) -> [i64; 5]
     }
 }
 
-fn opened_cells(answer: Opened) -> [i64; 5]
+pub fn opened_cells(answer: Opened) -> [i64; 5]
     ensures { λ r. ⌜ r ≡ cellsOf 9 (ofOpened answer) ⌝ }
 {
     match answer {
@@ -136,7 +136,7 @@ fn opened_cells(answer: Opened) -> [i64; 5]
     }
 }
 
-fn stepped_cells(answer: Stepped) -> [i64; 5]
+pub fn stepped_cells(answer: Stepped) -> [i64; 5]
     ensures { λ r. ⌜ r ≡ cellsOf 10 (ofStepped [] [] answer) ⌝ }
 {
     match answer {
@@ -151,7 +151,7 @@ fn stepped_cells(answer: Stepped) -> [i64; 5]
     }
 }
 
-fn closed_cells(answer: Closed) -> [i64; 5]
+pub fn closed_cells(answer: Closed) -> [i64; 5]
     ensures { λ r. ⌜ r ≡ cellsOf 11 (ofClosed answer) ⌝ }
 {
     match answer {
@@ -160,7 +160,7 @@ fn closed_cells(answer: Closed) -> [i64; 5]
     }
 }
 
-fn swept_cells(answer: Swept) -> [i64; 5]
+pub fn swept_cells(answer: Swept) -> [i64; 5]
     ensures { λ r. ⌜ r ≡ cellsOf 12 (ofSwept answer) ⌝ }
 {
     match answer {
@@ -169,7 +169,7 @@ fn swept_cells(answer: Swept) -> [i64; 5]
     }
 }
 
-fn tallied_cells(answer: Tallied) -> [i64; 5]
+pub fn tallied_cells(answer: Tallied) -> [i64; 5]
     ensures { λ r. ⌜ r ≡ cellsOf 13 (ofTallied answer) ⌝ }
 {
     match answer {
@@ -178,12 +178,74 @@ fn tallied_cells(answer: Tallied) -> [i64; 5]
     }
 }
 
-// The cells of the answer, how many pairs were handed out, and the tickets and the coordinator afterwards.
+// The calls that leave the tickets and the coordinator alone.
+pub enum Quiet {
+    Lookup(i64),
+    Insert(i64, i64, u64),
+    Remove(i64),
+    Ceil(i64),
+    Floor(i64),
+    Succ(i64),
+    Pred(i64),
+    Fast(i64, i64),
+    Tally,
+}
+
+// The calls that may change them.
+pub enum Ticketed {
+    HandOver(Node),
+    Open(i64, i64),
+    Step(Version, u32),
+    Close(Version),
+    Sweep,
+}
+
+// A call by its kind, so that a quiet one carries no copy of the tickets.
+pub enum Kind {
+    Quiet(Quiet),
+    Ticketed(Ticketed),
+}
+
+fn kind_of(call: Call) -> Kind
+    ensures { λ r. ⌜ callOf r ≡ call ⌝ }
+{
+    match call {
+        Call::Lookup(key) => Kind::Quiet(Quiet::Lookup(key)),
+        Call::Insert(key, value, coin) => Kind::Quiet(Quiet::Insert(key, value, coin)),
+        Call::Remove(key) => Kind::Quiet(Quiet::Remove(key)),
+        Call::HandOver(node) => Kind::Ticketed(Ticketed::HandOver(node)),
+        Call::Ceil(key) => Kind::Quiet(Quiet::Ceil(key)),
+        Call::Floor(key) => Kind::Quiet(Quiet::Floor(key)),
+        Call::Succ(key) => Kind::Quiet(Quiet::Succ(key)),
+        Call::Pred(key) => Kind::Quiet(Quiet::Pred(key)),
+        Call::Fast(low, high) => Kind::Quiet(Quiet::Fast(low, high)),
+        Call::Open(low, high) => Kind::Ticketed(Ticketed::Open(low, high)),
+        Call::Step(version, n) => Kind::Ticketed(Ticketed::Step(version, n)),
+        Call::Close(version) => Kind::Ticketed(Ticketed::Close(version)),
+        Call::Sweep => Kind::Ticketed(Ticketed::Sweep),
+        Call::Tally => Kind::Quiet(Quiet::Tally),
+    }
+}
+
+// The cells of the answer, and how many pairs were handed out.
+pub struct Reply {
+    pub cells: [i64; 5],
+    pub pairs: usize,
+}
+
+// The same, and the tickets and the coordinator afterwards.
 pub struct Turn {
     pub cells: [i64; 5],
     pub pairs: usize,
     pub tickets: [Ticket; 16],
     pub coordinator: Coordinator,
+}
+
+// A reply that hands out no pairs.
+fn without_pairs(cells: [i64; 5]) -> Reply
+    ensures { λ r. ⌜ r ≡ replyOf cells 0 ⌝ }
+{
+    Reply { cells, pairs: 0 }
 }
 
 // A turn that hands out no pairs.
@@ -262,22 +324,20 @@ fn ranged_count(answer: Ranged) -> usize
     }
 }
 
-fn fast_turn(
+fn fast_reply(
     keys: &[u64],
     values: &[i64],
     rows: &[u32],
     buckets: &[u32],
-    tickets: [Ticket; 16],
-    coordinator: Coordinator,
+    counter: Version,
     low: i64,
     high: i64,
     out_keys: &mut [i64],
     out_values: &mut [i64],
-) -> Turn
+) -> Reply
     requires { ⌜ FastReady (now keys) (now values) (now rows) (now buckets) ⌝ }
-    ensures { λ r. ⌜ FastTurn (now (keys .entry)) (now (values .entry)) (now (rows .entry)) tickets coordinator low high (now («out_keys» .entry)) (now («out_values» .entry)) (now («out_keys» .exit)) (now («out_values» .exit)) r ⌝ }
+    ensures { λ r. ⌜ FastReply (now (keys .entry)) (now (values .entry)) (now (rows .entry)) (counter .0) low high (now («out_keys» .entry)) (now («out_values» .entry)) (now («out_keys» .exit)) (now («out_values» .exit)) r ⌝ }
 {
-    let counter = coordinator.counter;
     let answer = ranges::fast_range(
         keys,
         values,
@@ -289,11 +349,9 @@ fn fast_turn(
         out_keys,
         out_values,
     );
-    Turn {
+    Reply {
         cells: ranged_cells(answer),
         pairs: ranged_count(answer),
-        tickets,
-        coordinator,
     }
 }
 
@@ -369,67 +427,83 @@ fn step_turn(
     }
 }
 
-// Makes one call on sound tables, with the places of one call in both pair buffers.
-pub fn make_call(
+// Makes a quiet call on sound tables, with the places of one call in both pair buffers. Nothing reads the tickets: they are there for the contract, which speaks of whole tables.
+fn make_quiet(
     keys: &mut [u64],
     values: &mut [i64],
     rows: &mut [u32],
     buckets: &mut [u32],
     tickets: [Ticket; 16],
     coordinator: Coordinator,
-    call: Call,
+    call: Quiet,
     out_keys: &mut [i64],
     out_values: &mut [i64],
-) -> Turn
+) -> Reply
     requires { ⌜ Sound (lent (now keys) (now values) (now rows) (now buckets) tickets coordinator) × (length (now «out_keys») ≡ room) × (length (now «out_values») ≡ room) ⌝ }
-    ensures { λ r. ⌜ Turned (lent (now (keys .entry)) (now (values .entry)) (now (rows .entry)) (now (buckets .entry)) tickets coordinator) (lent (now (keys .exit)) (now (values .exit)) (now (rows .exit)) (now (buckets .exit)) (r .tickets) (r .coordinator)) call (now («out_keys» .entry)) (now («out_values» .entry)) (now («out_keys» .exit)) (now («out_values» .exit)) (r .cells) (r .pairs) ⌝ }
+    ensures { λ r. ⌜ Turned (lent (now (keys .entry)) (now (values .entry)) (now (rows .entry)) (now (buckets .entry)) tickets coordinator) (lent (now (keys .exit)) (now (values .exit)) (now (rows .exit)) (now (buckets .exit)) tickets coordinator) (quietCall call) (now («out_keys» .entry)) (now («out_values» .entry)) (now («out_keys» .exit)) (now («out_values» .exit)) (r .cells) (r .pairs) ⌝ }
 {
     let cap = keys.len() as u32;
     let counter = coordinator.counter;
     match call {
-        Call::Lookup(key) => {
+        Quiet::Lookup(key) => {
             let answer = finds::lookup(keys, values, rows, buckets, key);
-            plain(found_cells(answer), tickets, coordinator)
+            without_pairs(found_cells(answer))
         }
-        Call::Insert(key, value, coin) => {
+        Quiet::Insert(key, value, coin) => {
             let answer = changes::insert(keys, values, rows, buckets, counter, key, value, coin);
-            plain(inserted_cells(answer), tickets, coordinator)
+            without_pairs(inserted_cells(answer))
         }
-        Call::Remove(key) => {
+        Quiet::Remove(key) => {
             let answer = changes::remove(keys, rows, buckets, counter, key);
-            plain(removed_cells(answer), tickets, coordinator)
+            without_pairs(removed_cells(answer))
         }
-        Call::HandOver(node) => hand_over_turn(rows, cap, tickets, coordinator, node),
-        Call::Ceil(key) => {
-            let cells = nearest_turn(keys, rows, buckets, 4, key, 0, true);
-            plain(cells, tickets, coordinator)
-        }
-        Call::Floor(key) => {
-            let cells = nearest_turn(keys, rows, buckets, 5, key, 1, true);
-            plain(cells, tickets, coordinator)
-        }
-        Call::Succ(key) => {
-            let cells = nearest_turn(keys, rows, buckets, 6, key, 0, false);
-            plain(cells, tickets, coordinator)
-        }
-        Call::Pred(key) => {
-            let cells = nearest_turn(keys, rows, buckets, 7, key, 1, false);
-            plain(cells, tickets, coordinator)
-        }
-        Call::Fast(low, high) => fast_turn(
+        Quiet::Ceil(key) => without_pairs(nearest_turn(keys, rows, buckets, 4, key, 0, true)),
+        Quiet::Floor(key) => without_pairs(nearest_turn(keys, rows, buckets, 5, key, 1, true)),
+        Quiet::Succ(key) => without_pairs(nearest_turn(keys, rows, buckets, 6, key, 0, false)),
+        Quiet::Pred(key) => without_pairs(nearest_turn(keys, rows, buckets, 7, key, 1, false)),
+        Quiet::Fast(low, high) => fast_reply(
             keys,
             values,
+            rows,
+            buckets,
+            counter,
+            low,
+            high,
+            out_keys,
+            out_values,
+        ),
+        Quiet::Tally => without_pairs(tallied_cells(finds::tally(rows, cap, coordinator.due))),
+    }
+}
+
+// Makes a ticketed call likewise.
+fn make_ticketed(
+    keys: &[u64],
+    values: &[i64],
+    rows: &mut [u32],
+    buckets: &[u32],
+    tickets: [Ticket; 16],
+    coordinator: Coordinator,
+    call: Ticketed,
+    out_keys: &mut [i64],
+    out_values: &mut [i64],
+) -> Turn
+    requires { ⌜ Sound (lent (now keys) (now values) (now rows) (now buckets) tickets coordinator) × (length (now «out_keys») ≡ room) × (length (now «out_values») ≡ room) ⌝ }
+    ensures { λ r. ⌜ Turned (lent (now (keys .entry)) (now (values .entry)) (now (rows .entry)) (now (buckets .entry)) tickets coordinator) (lent (now (keys .entry)) (now (values .entry)) (now (rows .exit)) (now (buckets .entry)) (r .tickets) (r .coordinator)) (ticketedCall call) (now («out_keys» .entry)) (now («out_values» .entry)) (now («out_keys» .exit)) (now («out_values» .exit)) (r .cells) (r .pairs) ⌝ }
+{
+    let cap = keys.len() as u32;
+    match call {
+        Ticketed::HandOver(node) => hand_over_turn(rows, cap, tickets, coordinator, node),
+        Ticketed::Open(low, high) => open_turn(
+            keys,
             rows,
             buckets,
             tickets,
             coordinator,
             low,
             high,
-            out_keys,
-            out_values,
         ),
-        Call::Open(low, high) => open_turn(keys, rows, buckets, tickets, coordinator, low, high),
-        Call::Step(version, n) => step_turn(
+        Ticketed::Step(version, n) => step_turn(
             keys,
             values,
             rows,
@@ -440,12 +514,8 @@ pub fn make_call(
             out_keys,
             out_values,
         ),
-        Call::Close(version) => close_turn(tickets, coordinator, version),
-        Call::Sweep => sweep_turn(rows, cap, tickets, coordinator),
-        Call::Tally => {
-            let answer = finds::tally(rows, cap, coordinator.due);
-            plain(tallied_cells(answer), tickets, coordinator)
-        }
+        Ticketed::Close(version) => close_turn(tickets, coordinator, version),
+        Ticketed::Sweep => sweep_turn(rows, cap, tickets, coordinator),
     }
 }
 
@@ -510,11 +580,12 @@ fn next_call(
     }
 }
 
-// Puts the cells of an answer to their place.
-fn put_cells(answers: &mut [i64], at: usize, cells: [i64; 5])
-    requires { ⌜ at + 5 ≤ length (now answers) ⌝ }
-    ensures { λ r. ⌜ now (answers .exit) ≡ written (now (answers .entry)) at cells ⌝ }
+// Puts the cells of an answer to their place, behind those of so many calls.
+fn put_cells(answers: &mut [i64], calls: usize, cells: [i64; 5])
+    requires { ⌜ calls * 5 + 5 ≤ length (now answers) ⌝ }
+    ensures { λ r. ⌜ now (answers .exit) ≡ written (now (answers .entry)) (calls * 5) cells ⌝ }
 {
+    let at = calls * 5;
     let mut i: usize = 0;
     while i < 5 {
         answers[at + i] = cells[i];
@@ -522,15 +593,50 @@ fn put_cells(answers: &mut [i64], at: usize, cells: [i64; 5])
     }
 }
 
-// Makes a call of a list, behind so many calls and pairs: its cells go to their place, and its pairs behind the others.
-fn take_turn(
+// Makes a quiet call of a list, behind so many calls and pairs, and answers how many pairs it hands out: its cells go to their place, and its pairs behind the others.
+fn take_quiet(
     keys: &mut [u64],
     values: &mut [i64],
     rows: &mut [u32],
     buckets: &mut [u32],
     tickets: [Ticket; 16],
     coordinator: Coordinator,
-    call: Call,
+    call: Quiet,
+    calls: usize,
+    pairs: usize,
+    answers: &mut [i64],
+    out_keys: &mut [i64],
+    out_values: &mut [i64],
+) -> usize
+    requires { ⌜ Sound (lent (now keys) (now values) (now rows) (now buckets) tickets coordinator) × Room (length (now answers)) (length (now «out_keys»)) (length (now «out_values»)) calls pairs ⌝ }
+    ensures { λ r. ⌜ Laid (lent (now (keys .entry)) (now (values .entry)) (now (rows .entry)) (now (buckets .entry)) tickets coordinator) (lent (now (keys .exit)) (now (values .exit)) (now (rows .exit)) (now (buckets .exit)) tickets coordinator) (quietCall call) calls pairs (now (answers .entry)) (now («out_keys» .entry)) (now («out_values» .entry)) (now (answers .exit)) (now («out_keys» .exit)) (now («out_values» .exit)) r ⌝ }
+{
+    let end = pairs + ROOM;
+    let reply = make_quiet(
+        keys,
+        values,
+        rows,
+        buckets,
+        tickets,
+        coordinator,
+        call,
+        &mut out_keys[pairs..end],
+        &mut out_values[pairs..end],
+    );
+    let cells = reply.cells;
+    put_cells(answers, calls, cells);
+    reply.pairs
+}
+
+// Makes a ticketed call of a list likewise.
+fn take_ticketed(
+    keys: &[u64],
+    values: &[i64],
+    rows: &mut [u32],
+    buckets: &[u32],
+    tickets: [Ticket; 16],
+    coordinator: Coordinator,
+    call: Ticketed,
     calls: usize,
     pairs: usize,
     answers: &mut [i64],
@@ -538,10 +644,10 @@ fn take_turn(
     out_values: &mut [i64],
 ) -> Turn
     requires { ⌜ Sound (lent (now keys) (now values) (now rows) (now buckets) tickets coordinator) × Room (length (now answers)) (length (now «out_keys»)) (length (now «out_values»)) calls pairs ⌝ }
-    ensures { λ r. ⌜ Laid (lent (now (keys .entry)) (now (values .entry)) (now (rows .entry)) (now (buckets .entry)) tickets coordinator) (lent (now (keys .exit)) (now (values .exit)) (now (rows .exit)) (now (buckets .exit)) (r .tickets) (r .coordinator)) call calls pairs (now (answers .entry)) (now («out_keys» .entry)) (now («out_values» .entry)) (now (answers .exit)) (now («out_keys» .exit)) (now («out_values» .exit)) (r .pairs) ⌝ }
+    ensures { λ r. ⌜ Laid (lent (now (keys .entry)) (now (values .entry)) (now (rows .entry)) (now (buckets .entry)) tickets coordinator) (lent (now (keys .entry)) (now (values .entry)) (now (rows .exit)) (now (buckets .entry)) (r .tickets) (r .coordinator)) (ticketedCall call) calls pairs (now (answers .entry)) (now («out_keys» .entry)) (now («out_values» .entry)) (now (answers .exit)) (now («out_keys» .exit)) (now («out_values» .exit)) (r .pairs) ⌝ }
 {
     let end = pairs + ROOM;
-    let turn = make_call(
+    let turn = make_ticketed(
         keys,
         values,
         rows,
@@ -553,7 +659,7 @@ fn take_turn(
         &mut out_values[pairs..end],
     );
     let cells = turn.cells;
-    put_cells(answers, calls * 5, cells);
+    put_cells(answers, calls, cells);
     turn
 }
 
@@ -602,27 +708,50 @@ fn run_calls(
         );
         match next {
             Then::Make(call, len) => {
-                let turn = take_turn(
-                    keys,
-                    values,
-                    rows,
-                    buckets,
-                    tickets_now,
-                    coordinator_now,
-                    call,
-                    calls,
-                    pairs,
-                    answers,
-                    out_keys,
-                    out_values,
-                );
-                let after = turn.tickets;
-                let counts = turn.coordinator;
-                tickets_now = after;
-                coordinator_now = counts;
+                let kind = kind_of(call);
+                let behind = calls;
                 used += len;
                 calls += 1;
-                pairs += turn.pairs;
+                match kind {
+                    Kind::Quiet(quiet) => {
+                        let count = take_quiet(
+                            keys,
+                            values,
+                            rows,
+                            buckets,
+                            tickets_now,
+                            coordinator_now,
+                            quiet,
+                            behind,
+                            pairs,
+                            answers,
+                            out_keys,
+                            out_values,
+                        );
+                        pairs += count;
+                    }
+                    Kind::Ticketed(ticketed) => {
+                        let turn = take_ticketed(
+                            keys,
+                            values,
+                            rows,
+                            buckets,
+                            tickets_now,
+                            coordinator_now,
+                            ticketed,
+                            behind,
+                            pairs,
+                            answers,
+                            out_keys,
+                            out_values,
+                        );
+                        let after = turn.tickets;
+                        let counts = turn.coordinator;
+                        tickets_now = after;
+                        coordinator_now = counts;
+                        pairs += turn.pairs;
+                    }
+                }
             }
             Then::Over(end) => {
                 return Batch {

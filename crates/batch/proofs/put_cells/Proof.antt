@@ -1,11 +1,12 @@
 -- `batch::put_cells` meets its contract. The invariant: the first i cells stand at their places.
 -- Assumes nothing.
 use mathlib.Core.Path.{_≡_, refl, sym, ap, _∙_}
-use Prim.Native.Nat.{_≤_, _-_, _+_}
+use mathlib.Core.List.{List}
+use Prim.Native.Nat.{ℕ, _≤_, _<_, _-_, _+_}
 use native.Mathlib.Omega.{arith}
 use lib.ListN.{length, getD, set, take, length-set}
 use lib.Seq.{take-all}
-use lib.IntN.{pos}
+use lib.IntN.{ℤ, pos}
 use denote.Ref.{now}
 use mir.Syntax.{w64}
 use mir.ValLaws.{toZ-ofZ}
@@ -16,15 +17,23 @@ use Rattle.batch.proofs.Parts.{written-next}
 use Rattle.batch.proofs.put_cells.Statement.{statement}
 use Rattle.batch.proofs.put_cells.Tie as tie
 
+-- one more cell
+one-more : (answers₀ : List ℤ) (at : ℕ) (cells : List ℤ) (i : ℕ) {answers : List ℤ} → i < length cells → at + length cells ≤ length answers₀ → answers ≡ written answers₀ at (take i cells)
+    → set answers (at + i) (getD cells i (pos 0)) ≡ written answers₀ at (take (i + 1) cells)
+one-more answers₀ at cells i h l e = ap (λ z. set z (at + i) (getD cells i (pos 0))) e ∙ written-next answers₀ at cells i (pos 0) h l
+
 abbrev Inv-loop : tie.InvT-loop
-Inv-loop answers₀ at cells i₀ answers i =
+Inv-loop answers₀ calls cells at i₀ answers i =
     (i ≤ 5) × (length cells ≡ 5) × (at + 5 ≤ length answers₀) × (length answers ≡ length answers₀) × (answers ≡ written answers₀ at (take i cells))
 
 abbrev μ-loop : tie.MeasureT-loop
-μ-loop answers₀ at cells i₀ answers i = 5 - i
+μ-loop answers₀ calls cells at i₀ answers i = 5 - i
+
+mul-at : tie.Need-mul-at Inv-loop μ-loop
+mul-at c = record { fits = omega (arith, c .good, c .pre) }
 
 loop-holds : tie.Need-loop-holds Inv-loop μ-loop
-loop-holds c = (omega arith, search needs, c .pre, refl, sym (written-none (now (c .args .answers)) (c .args .at)))
+loop-holds c = (omega arith, search needs, omega (arith, c .pre), refl, sym (written-none _ _))
 
 mul-answers : tie.Need-mul-answers Inv-loop μ-loop
 mul-answers c = search needs
@@ -32,11 +41,11 @@ mul-answers c = search needs
 array-copy-out-answers : tie.Need-array-copy-out-answers Inv-loop μ-loop
 array-copy-out-answers c = search needs
 
-add-t11 : tie.Need-add-t11 Inv-loop μ-loop
-add-t11 c = omega arith
+add-t12 : tie.Need-add-t12 Inv-loop μ-loop
+add-t12 c = omega arith
 
-mul-t12 : tie.Need-mul-t12 Inv-loop μ-loop
-mul-t12 c = omega (arith, c .before .before .before .good)
+mul-t13 : tie.Need-mul-t13 Inv-loop μ-loop
+mul-t13 c = omega (arith, c .before .before .before .good)
 
 slice-set-from-answers : tie.Need-slice-set-from-answers Inv-loop μ-loop
 slice-set-from-answers c = omega arith
@@ -51,22 +60,19 @@ loop-again : tie.Need-loop-again Inv-loop μ-loop
 loop-again c =
     let a = c .before .before .before .args in
     let lp = c .before .before .loop in
-    let x = getD (a .t3) (lp .i) (pos 0) in
-    let v = toZ-ofZ w64 x (record { sfits = c .answers .given }) in (
+    let v = toZ-ofZ w64 (getD (a .t3) (lp .i) (pos 0)) (record { sfits = c .answers .given }) in (
       omega arith,
       lp .inv .1,
       lp .inv .2,
       simp length-set (lp .inv .3),
-      rw v (ap (λ z. set z (a .at + lp .i) x) (lp .inv .4) ∙ written-next (now (a .answers)) (a .at) (a .t3) (lp .i) (pos 0) (omega arith) (omega arith)),
+      rw v (one-more (now (a .answers)) _ (a .t3) (lp .i) (omega arith) (omega arith) (lp .inv .4)),
     )
 
 same-length : tie.Need-same-length Inv-loop μ-loop
 same-length c = c .before .loop .inv .3
 
 returns : tie.Need-returns Inv-loop μ-loop
-returns c =
-    let lp = c .before .loop in
-    lp .inv .4 ∙ ap (written (now (c .before .before .args .answers)) (c .before .before .args .at)) (take-all (lp .i) (c .before .before .args .t3) (omega arith))
+returns c = c .before .loop .inv .4 ∙ ap (written _ _) (take-all (c .before .loop .i) (c .before .before .args .t3) (omega arith))
 
 pub put-cells-spec : {M : Type 1} → statement M
 put-cells-spec =
@@ -74,11 +80,12 @@ put-cells-spec =
     (tie.spec
     Inv-loop
     μ-loop
+    mul-at
     loop-holds
     mul-answers
     array-copy-out-answers
-    add-t11
-    mul-t12
+    add-t12
+    mul-t13
     slice-set-from-answers
     add-i
     loop-less

@@ -4,10 +4,11 @@ use mathlib.Core.Path.{_≡_, refl, _∙_, subst}
 use Prim.Native.Nat.{_-_}
 use native.Mathlib.Omega.{arith}
 use lib.ListN.{length}
-use borrow.Author.Needs.{needs}
 use Rattle.soundness.specs.Tested.{lent}
 use Rattle.batch.specs.Lists.{Comes, inputOf}
+use Rattle.batch.proofs.Laying.{kind-laid}
 use Rattle.batch.proofs.Listing.{Sofar, sofar-none, sofar-turn, sofar-ends, next-ends, next-less, out-length, keys-length, values-length}
+use borrow.Author.Needs.{needs}
 use Rattle.batch.proofs.run_calls.Statement.{statement}
 use Rattle.batch.proofs.run_calls.Tie as tie
 
@@ -28,27 +29,68 @@ next-call-requires c κs = search needs
 enum-known-next : tie.Need-enum-known-next Inv-loop μ-loop
 enum-known-next c = search needs
 
-take-turn-requires : tie.Need-take-turn-requires Inv-loop μ-loop
-take-turn-requires c κs = let n = subst (Comes _ _ _ _ _ _ _ _) (c .before .before .before .before .before .before .before .before .next .given .1) (c .before .before .before .before .before .before .before .before .before .before .next-call .ensures) in (c .before .before .before .before .before .before .before .before .before .before .before .loop .inv .0 .sound, n .0 .has-room)
+kind-of-requires : tie.Need-kind-of-requires Inv-loop μ-loop
+kind-of-requires c κs = search needs
 
 add-used : tie.Need-add-used Inv-loop μ-loop
-add-used c = let n = subst (Comes _ _ _ _ _ _ _ _) (c .before .before .before .before .before .before .before .before .before .before .before .before .before .before .before .before .before .before .before .before .before .next .given .1) (c .before .before .before .before .before .before .before .before .before .before .before .before .before .before .before .before .before .before .before .before .before .before .before .next-call .ensures) in record { fits = omega (arith, next-ends (c .before .before .before .before .before .before .before .before .before .before .before .before .before .before .before .before .before .before .before .before .before .before .before .before .loop .inv .0) n, c .before .before .before .before .before .before .before .before .before .before .before .before .before .before .before .before .before .before .before .before .before .before .before .before .before .before .before .before .before .good) }
+add-used c =
+    let n = subst (Comes _ _ _ _ _ _ _ _) (c .before .before .next .given .1) (c .before .before .before .before .next-call .ensures) in
+    record { fits = omega (arith, next-ends (c .before .before .before .before .before .loop .inv .0) n, c .before .before .before .before .before .before .before .before .before .before .good) }
 
 add-calls : tie.Need-add-calls Inv-loop μ-loop
-add-calls c = let n = subst (Comes _ _ _ _ _ _ _ _) (c .before .before .before .before .before .before .before .before .before .before .before .before .before .before .before .before .before .before .before .before .before .next .given .1) (c .before .before .before .before .before .before .before .before .before .before .before .before .before .before .before .before .before .before .before .before .before .before .before .next-call .ensures) in record { fits = omega (arith, n .0 .has-room .cells, out-length (c .before .before .before .before .before .before .before .before .before .before .before .before .before .before .before .before .before .before .before .before .before .before .before .before .loop .inv .0), c .before .before .before .before .before .before .before .before .before .before .before .before .before .before .before .before .before .before .before .before .before .before .before .before .before .before .before .before .before .good) }
+add-calls c =
+    let n = subst (Comes _ _ _ _ _ _ _ _) (c .before .before .next .given .1) (c .before .before .before .before .next-call .ensures) in
+    record { fits = omega (arith, n .0 .has-room .cells, out-length (c .before .before .before .before .before .loop .inv .0), c .before .before .before .before .before .before .before .before .before .before .good) }
+
+enum-known-kind : tie.Need-enum-known-kind Inv-loop μ-loop
+enum-known-kind c = search needs
+
+take-quiet-requires : tie.Need-take-quiet-requires Inv-loop μ-loop
+take-quiet-requires c κs =
+    let n = subst (Comes _ _ _ _ _ _ _ _) (c .before .before .before .before .before .before .before .before .before .before .before .before .next .given .1) (c .before .before .before .before .before .before .before .before .before .before .before .before .before .before .next-call .ensures) in
+    (c .before .before .before .before .before .before .before .before .before .before .before .before .before .before .before .loop .inv .0 .sound, n .0 .has-room)
 
 add-pairs : tie.Need-add-pairs Inv-loop μ-loop
-add-pairs c = let n = subst (Comes _ _ _ _ _ _ _ _) (c .before .before .before .before .before .before .before .before .before .before .before .before .before .before .before .before .before .before .before .before .before .before .next .given .1) (c .before .before .before .before .before .before .before .before .before .before .before .before .before .before .before .before .before .before .before .before .before .before .before .before .next-call .ensures) in record { fits = omega (arith, n .0 .has-room .for-keys, c .before .before .before .before .before .before .before .before .before .before .before .before .before .take-turn .ensures .few, keys-length (c .before .before .before .before .before .before .before .before .before .before .before .before .before .before .before .before .before .before .before .before .before .before .before .before .before .loop .inv .0), c .before .before .before .before .before .before .before .before .before .before .before .before .before .before .before .before .before .before .before .before .before .before .before .before .before .before .before .before .before .before .good) }
+add-pairs c =
+    let n = subst (Comes _ _ _ _ _ _ _ _) (c .before .before .before .before .before .before .before .before .before .before .before .before .before .before .before .before .before .before .before .before .before .before .before .next .given .1) (c .before .before .before .before .before .before .before .before .before .before .before .before .before .before .before .before .before .before .before .before .before .before .before .before .before .next-call .ensures) in
+    record { fits = omega (arith, n .0 .has-room .for-keys, c .before .before .before .before .before .before .before .before .before .before .take-quiet .ensures .few, keys-length (c .before .before .before .before .before .before .before .before .before .before .before .before .before .before .before .before .before .before .before .before .before .before .before .before .before .before .loop .inv .0), c .before .before .before .before .before .before .before .before .before .before .before .before .before .before .before .before .before .before .before .before .before .before .before .before .before .before .before .before .before .before .before .good) }
 
 loop-less : tie.Need-loop-less Inv-loop μ-loop
-loop-less c = let n = subst (Comes _ _ _ _ _ _ _ _) (c .before .before .before .before .before .before .before .before .before .before .before .before .before .before .before .before .before .before .before .before .before .before .next .given .1) (c .before .before .before .before .before .before .before .before .before .before .before .before .before .before .before .before .before .before .before .before .before .before .before .before .next-call .ensures) in next-less (c .before .before .before .before .before .before .before .before .before .before .before .before .before .before .before .before .before .before .before .before .before .before .before .before .before .loop .inv .0) n
+loop-less c =
+    let n = subst (Comes _ _ _ _ _ _ _ _) (c .before .before .before .before .before .before .before .before .before .before .before .before .before .before .before .before .before .before .before .before .before .before .before .next .given .1) (c .before .before .before .before .before .before .before .before .before .before .before .before .before .before .before .before .before .before .before .before .before .before .before .before .before .next-call .ensures) in
+    next-less (c .before .before .before .before .before .before .before .before .before .before .before .before .before .before .before .before .before .before .before .before .before .before .before .before .before .before .loop .inv .0) n
 
 loop-again : tie.Need-loop-again Inv-loop μ-loop
 loop-again c =
-    let n = subst (Comes _ _ _ _ _ _ _ _) (c .before .before .before .before .before .before .before .before .before .before .before .before .before .before .before .before .before .before .before .before .before .before .next .given .1) (c .before .before .before .before .before .before .before .before .before .before .before .before .before .before .before .before .before .before .before .before .before .before .before .before .next-call .ensures) in
-    let v = c .before .before .before .before .before .before .before .before .before .before .before .before .before .before .before .before .before .before .before .before .before .before .before .before .before .loop .inv in
-    let k = c .before .before .before .before .before .before .before .before .before .before .before .before .before .take-turn .kept in
-    (sofar-turn (v .0) n (c .before .before .before .before .before .before .before .before .before .before .before .before .before .take-turn .ensures), k .0 ∙ v .1, k .1 .0 ∙ v .2, k .1 .1 .0 ∙ v .3, k .1 .1 .1 .0 ∙ v .4)
+    let n = subst (Comes _ _ _ _ _ _ _ _) (c .before .before .before .before .before .before .before .before .before .before .before .before .before .before .before .before .before .before .before .before .before .before .before .next .given .1) (c .before .before .before .before .before .before .before .before .before .before .before .before .before .before .before .before .before .before .before .before .before .before .before .before .before .next-call .ensures) in
+    let v = c .before .before .before .before .before .before .before .before .before .before .before .before .before .before .before .before .before .before .before .before .before .before .before .before .before .before .loop .inv in
+    let k = c .before .before .before .before .before .before .before .before .before .before .take-quiet .kept in
+    (sofar-turn (v .0) n (kind-laid (c .before .before .before .before .before .before .before .before .before .before .before .before .before .before .before .before .before .before .before .before .before .kind-of .ensures) (c .before .before .before .before .before .before .before .before .before .before .before .before .before .before .before .before .before .before .before .kind .given .1) (c .before .before .before .before .before .before .before .before .before .before .take-quiet .ensures)), k .0 ∙ v .1, k .1 .0 ∙ v .2, k .1 .1 .0 ∙ v .3, k .1 .1 .1 .0 ∙ v .4)
+
+enum-known-kind-2 : tie.Need-enum-known-kind-2 Inv-loop μ-loop
+enum-known-kind-2 c = search needs
+
+take-ticketed-requires : tie.Need-take-ticketed-requires Inv-loop μ-loop
+take-ticketed-requires c κs =
+    let n = subst (Comes _ _ _ _ _ _ _ _) (c .before .before .before .before .before .before .before .before .before .before .before .before .next .given .1) (c .before .before .before .before .before .before .before .before .before .before .before .before .before .before .next-call .ensures) in
+    (c .before .before .before .before .before .before .before .before .before .before .before .before .before .before .before .loop .inv .0 .sound, n .0 .has-room)
+
+add-pairs-2 : tie.Need-add-pairs-2 Inv-loop μ-loop
+add-pairs-2 c =
+    let n = subst (Comes _ _ _ _ _ _ _ _) (c .before .before .before .before .before .before .before .before .before .before .before .before .before .before .before .before .before .before .before .before .before .next .given .1) (c .before .before .before .before .before .before .before .before .before .before .before .before .before .before .before .before .before .before .before .before .before .before .before .next-call .ensures) in
+    record { fits = omega (arith, n .0 .has-room .for-keys, c .before .before .before .before .before .before .before .before .take-ticketed .ensures .few, keys-length (c .before .before .before .before .before .before .before .before .before .before .before .before .before .before .before .before .before .before .before .before .before .before .before .before .loop .inv .0), c .before .before .before .before .before .before .before .before .before .before .before .before .before .before .before .before .before .before .before .before .before .before .before .before .before .before .before .before .before .good) }
+
+loop-less-2 : tie.Need-loop-less-2 Inv-loop μ-loop
+loop-less-2 c =
+    let n = subst (Comes _ _ _ _ _ _ _ _) (c .before .before .before .before .before .before .before .before .before .before .before .before .before .before .before .before .before .before .before .before .before .next .given .1) (c .before .before .before .before .before .before .before .before .before .before .before .before .before .before .before .before .before .before .before .before .before .before .before .next-call .ensures) in
+    next-less (c .before .before .before .before .before .before .before .before .before .before .before .before .before .before .before .before .before .before .before .before .before .before .before .before .loop .inv .0) n
+
+loop-again-2 : tie.Need-loop-again-2 Inv-loop μ-loop
+loop-again-2 c =
+    let n = subst (Comes _ _ _ _ _ _ _ _) (c .before .before .before .before .before .before .before .before .before .before .before .before .before .before .before .before .before .before .before .before .before .next .given .1) (c .before .before .before .before .before .before .before .before .before .before .before .before .before .before .before .before .before .before .before .before .before .before .before .next-call .ensures) in
+    let v = c .before .before .before .before .before .before .before .before .before .before .before .before .before .before .before .before .before .before .before .before .before .before .before .before .loop .inv in
+    let k = c .before .before .before .before .before .before .before .before .take-ticketed .kept in
+    (sofar-turn (v .0) n (kind-laid (c .before .before .before .before .before .before .before .before .before .before .before .before .before .before .before .before .before .before .before .kind-of .ensures) (c .before .before .before .before .before .before .before .before .before .before .before .before .before .before .before .before .before .kind2 .given .1) (c .before .before .before .before .before .before .before .before .take-ticketed .ensures)), v .1, v .2, k .1 .1 .0 ∙ v .3, v .4)
 
 enum-known-next-2 : tie.Need-enum-known-next-2 Inv-loop μ-loop
 enum-known-next-2 c = search needs
@@ -86,12 +128,19 @@ run-calls-spec =
     loop-holds
     next-call-requires
     enum-known-next
-    take-turn-requires
+    kind-of-requires
     add-used
     add-calls
+    enum-known-kind
+    take-quiet-requires
     add-pairs
     loop-less
     loop-again
+    enum-known-kind-2
+    take-ticketed-requires
+    add-pairs-2
+    loop-less-2
+    loop-again-2
     enum-known-next-2
     same-length
     same-length-2

@@ -1,0 +1,5 @@
+pub mod Telling
+pub mod Lining
+pub mod Sofar
+pub mod Fitting
+pub mod Parting

@@ -1,0 +1,4 @@
+pub mod Moving
+pub mod Fetching
+pub mod Going
+pub mod Taking
