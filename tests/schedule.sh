@@ -52,20 +52,20 @@ memory_is_constant() {
     [ "$large" -le $((small + 1024)) ]
 }
 
-# A program that cannot go on says so on standard error, with a status other than 0.
+# A program that cannot go on ends and says so on standard error (docs/DECISIONS.md: its status is 0 all the same).
 says_so() {
   local word=$1 status=$2
-  [ "$status" -ne 0 ] && [ "$status" -ne 124 ] && grep -q "schedule: .*$word" "$work/said"
+  [ "$status" -eq 0 ] && grep -q "^schedule: $word.* failed$" "$work/said"
 }
 
 unreadable_input() {
   timeout 60 $schedule <"$work" >"$work/wrote" 2>"$work/said"
-  says_so read "$?" && [ ! -s "$work/wrote" ]
+  says_so "reading standard input" "$?" && [ ! -s "$work/wrote" ]
 }
 
 full_output() {
   timeout 60 $schedule <"$work/short" >/dev/full 2>"$work/said"
-  says_so writ "$?"
+  says_so "writing standard output" "$?"
 }
 
 # A reader that leaves early gets the first lines, and the program ends.

@@ -399,7 +399,7 @@ unfolding code.routine tablesOf
     (meets 𝓤 H (𝓖 .A) (givenOf 𝓤 H 𝓜 𝓖) (𝓜 .mem) (𝓡 .run) (tablesOf 𝓤 H 𝓜 (tables 𝓤 H 𝓜 𝓡 code.env))''')
         for home, g in self.callees:
             n = dashed(g)
-            out.append(f'    (cited 𝓤 H (Callee 𝓤 H (𝓖 .A) {n}.ended ({n}.clauses 𝓤 H (𝓖 .A) (𝓜 .mem) (𝓡 .run))) 𝓜 𝓡 code.env #{n} {n}-def.routine code.calls-{home}·{n} ({n}-thm.met 𝓤 H 𝓜 𝓖 𝓡))')
+            out.append(f'    (cited 𝓤 H (Callee 𝓤 H (𝓖 .A) {n}.ended ({n}.clauses 𝓤 H (𝓖 .A) (𝓜 .mem) (𝓡 .run))) 𝓜 𝓡 code.env #{n} {n}-def.routine code.calls-{dashed(home)}·{n} ({n}-thm.met 𝓤 H 𝓜 𝓖 𝓡))')
         out[-1] += ')'
         body = '\n'.join(out) + '\n'
         return self.uses(body) + body

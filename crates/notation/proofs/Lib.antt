@@ -1,0 +1,7 @@
+pub mod Wording
+pub mod Numbering
+pub mod Forming
+pub mod Sensing
+pub mod Texting
+pub mod Trips
+mod Examples

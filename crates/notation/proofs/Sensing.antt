@@ -1,0 +1,104 @@
+-- Laws of what a line says: the ranges of the numbers found, and the line by its first word.
+-- Assumes nothing.
+use mathlib.Core.Path.{_≡_, refl, sym, ap, _∙_}
+use mathlib.Core.Bool.{Bool, true, false, cond}
+use mathlib.Core.List.{List, [], _∷_}
+use Prim.Native.Nat.{ℕ, _+_, _≤_, _<_}
+use native.Mathlib.Omega.{arith}
+use lib.Dec.{eqb, leb}
+use lib.IntN.{ℤ, pos, negsuc}
+use lib.ListN.{length, drop, getD}
+use borrow.Author.Tests.{eq-eqb, ne-eqb, leb-true}
+use Rattle.listing.specs.Decimals.{worthFrom}
+use Rattle.transactions.specs.Calls.{small}
+use Rattle.notation.specs.declared.Fault.{Fault}
+use Rattle.notation.specs.declared.Fault.the-variants.{UnknownWord, NotANumber, OutOfRange, StartMissing}
+use Rattle.notation.specs.declared.numerals.Value.{Value}
+use Rattle.notation.specs.declared.numerals.Value.the-variants.{Of, Wrong}
+use Rattle.notation.specs.declared.Span.{Span}
+use Rattle.notation.specs.Words.{words, part, NextWord}
+use Rattle.notation.specs.Numerals.{allDigits, integerOf, allowed, plainValue, valueAs, digitsValue, number}
+use Rattle.notation.specs.Forms.{names, start, kinds, same, find, operand, Sense, nothing, numbers, wrong, with, next, operands, remark, formed, sense}
+use Rattle.notation.specs.Inner.{Ranged}
+use Rattle.notation.proofs.Numbering.{part-cons}
+
+-- what is no number is none
+no-value : {f : Fault} {n : ℕ} {P : Type 0} → Wrong f ≡ Of n → P
+no-value e = absurd (let z : _≡_ {A = ℕ} 0 1 = cc in omega arith)
+
+plain-bound : (most : ℕ) (z : ℤ) (n : ℕ) → plainValue most z ≡ Of n → n ≤ most
+plain-bound most (pos m) n e = go (leb m most) refl e
+  where
+    go : (b : Bool) → leb m most ≡ b → allowed b m ≡ Of n → n ≤ most
+    go true f q = let h : m ≡ n = cc in omega (arith, leb-true m most f)
+    go false f q = no-value q
+plain-bound most (negsuc m) n e = no-value e
+
+digits-bound : (s : Bool) (ds : List ℕ) (n : ℕ) → digitsValue s 2 ds ≡ Of n → n ≤ small
+digits-bound s [] n e = no-value e
+digits-bound s (d ∷ ds) n e = go (allDigits (d ∷ ds)) e
+  where
+    go : (b : Bool) → cond b (valueAs 2 (integerOf s (worthFrom 0 (d ∷ ds)))) (Wrong NotANumber) ≡ Of n → n ≤ small
+    go true q = plain-bound small (integerOf s (worthFrom 0 (d ∷ ds))) n q
+    go false q = no-value q
+
+number-bound : (word : List ℕ) (n : ℕ) → number 2 word ≡ Of n → n ≤ small
+unfolding number
+number-bound [] n e = no-value e
+number-bound (b ∷ bs) n e = go (eqb b 45) e
+  where
+    go : (t : Bool) → cond t (digitsValue true 2 bs) (digitsValue false 2 (b ∷ bs)) ≡ Of n → n ≤ small
+    go true q = digits-bound true bs n q
+    go false q = digits-bound false (b ∷ bs) n q
+
+start-zero : (word : List ℕ) (n : ℕ) → operand 3 word ≡ Of n → n ≡ 0
+start-zero word n e = go (same word start) e
+  where
+    go : (t : Bool) → cond t (Of 0) (Wrong StartMissing) ≡ Of n → n ≡ 0
+    go true q = cc
+    go false q = no-value q
+
+-- what says nothing, or is wrong, has no numbers
+no-numbers : {f : Fault} {ns : List ℕ} {P : Type 0} → wrong f ≡ numbers ns → P
+no-numbers e = absurd (let z : _≡_ {A = ℕ} 0 1 = cc in omega arith)
+
+-- LAW: the numbers of words are in the ranges of their kinds
+pub ranged : (ks : List ℕ) (ws : List (List ℕ)) (ns : List ℕ) → operands ks ws ≡ numbers ns → Ranged ks ns
+ranged [] ws ns e = tt
+ranged (k ∷ ks) [] ns e = no-numbers e
+ranged (k ∷ ks) (w ∷ ws) ns e = value (operand k w) refl e (λ ms q. ranged ks ws ms q)
+  where
+    rest : (n : ℕ) → operand k w ≡ Of n → (s : Sense) → operands ks ws ≡ s → with n s ≡ numbers ns → ((ms : List ℕ) → operands ks ws ≡ numbers ms → Ranged ks ms) → Ranged (k ∷ ks) ns
+    rest n o nothing q r again = absurd (let z : _≡_ {A = ℕ} 0 1 = cc in omega arith)
+    rest n o (numbers ms) q r again =
+        let e : ns ≡ n ∷ ms = cc in
+        rw e (λ f. number-bound w n (rw f at o), λ f. start-zero w n (rw f at o), again ms q)
+    rest n o (wrong f) q r again = no-numbers r
+
+    value : (v : Value) → operand k w ≡ v → next v (operands ks ws) ≡ numbers ns → ((ms : List ℕ) → operands ks ws ≡ numbers ms → Ranged ks ms) → Ranged (k ∷ ks) ns
+    value (Of n) o q again = rest n o (operands ks ws) refl q again
+    value (Wrong f) o q again = no-numbers q
+
+-- a line by its first word: none, a remark, a name that is not known, a form
+pub sense-none : (line : List ℕ) (r : Span) → NextWord line 0 r → r .start ≡ r .end → nothing ≡ sense (words line)
+unfolding sense
+sense-none line r w e = rw (w .none e)
+
+module _ (line : List ℕ) (r : Span) (w : NextWord line 0 r) (some : r .start < r .end) where
+  first-byte : remark (part (r .start) (r .end) line) ≡ eqb (getD line (r .start) 0) 35
+  first-byte = rw (part-cons (r .start) (r .end) line some (w .inside))
+
+  pub sense-remark : getD line (r .start) 0 ≡ 35 → nothing ≡ sense (words line)
+  unfolding sense
+  sense-remark e = rw (w .some some, first-byte, eq-eqb (getD line (r .start) 0) 35 e)
+
+  at-name : (getD line (r .start) 0 ≡ 35 → ⊥) → sense (words line) ≡ formed (find names (part (r .start) (r .end) line)) (words (drop (r .end) line))
+  unfolding sense
+  at-name e = rw (w .some some, first-byte, ne-eqb (getD line (r .start) 0) 35 e)
+
+  pub sense-unknown : (getD line (r .start) 0 ≡ 35 → ⊥) → (code : ℕ) → code ≡ find names (part (r .start) (r .end) line) → code ≡ 15 → wrong UnknownWord ≡ sense (words line)
+  sense-unknown e code c f = sym (at-name e ∙ ap (λ n. formed n (words (drop (r .end) line))) (sym c ∙ f))
+
+  pub sense-form : (getD line (r .start) 0 ≡ 35 → ⊥) → (code : ℕ) → code ≡ find names (part (r .start) (r .end) line) → (code ≡ 15 → ⊥)
+      → sense (words line) ≡ with code (operands (getD kinds code []) (words (drop (r .end) line)))
+  sense-form e code c f = at-name e ∙ ap (λ n. formed n (words (drop (r .end) line))) (sym c) ∙ rw (ne-eqb code 15 f)

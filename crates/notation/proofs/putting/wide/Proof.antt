@@ -1,0 +1,17 @@
+-- `notation::putting::wide` meets its contract.
+-- Assumes nothing.
+use borrow.Author.Needs.{needs}
+use native.Mathlib.Omega.{arith}
+use mir.Syntax.{w64}
+use mir.ValLaws.{toZ-pos}
+use Rattle.notation.proofs.putting.wide.Statement.{statement}
+use Rattle.notation.proofs.putting.wide.Tie as tie
+
+cast-result : tie.Need-cast-result
+cast-result c = search needs
+
+returns : tie.Need-returns
+returns c = toZ-pos w64 (c .args .n) (omega (arith, c .fits .n))
+
+pub wide-spec : {M : Type 1} → statement M
+wide-spec = tie.close (tie.spec cast-result returns)

@@ -1,0 +1,5 @@
+pub mod Words
+pub mod Numerals
+pub mod Forms
+pub mod Texts
+pub mod Inner

@@ -1,0 +1,44 @@
+-- The words of a line: what stands between blanks.
+-- Assumes nothing.
+use mathlib.Core.Path.{_≡_}
+use mathlib.Core.Bool.{Bool, cond, not, _||_, Bool·beq}
+use mathlib.Core.List.{List, [], _∷_}
+use Prim.Native.Nat.{ℕ, suc, _-_, _≤_, _<_}
+use lib.Dec.{eqb}
+use lib.ListN.{length, take, drop}
+use Rattle.lists.specs.Filters.{filter, empty}
+use Rattle.notation.specs.declared.Span.{Span}
+
+-- a space, a tab, a line feed or a carriage return
+abbrev pub blank : ℕ → Bool
+blank b = eqb b 32 || eqb b 9 || eqb b 10 || eqb b 13
+
+-- a byte in front of the first of some pieces
+abbrev pub onto : ℕ → List (List ℕ) → List (List ℕ)
+onto b [] = (b ∷ []) ∷ []
+onto b (w ∷ ws) = (b ∷ w) ∷ ws
+
+-- the pieces between blanks, the empty ones too
+abbrev pub pieces : List ℕ → List (List ℕ)
+pieces [] = [] ∷ []
+pieces (b ∷ bs) = cond (blank b) ([] ∷ pieces bs) (onto b (pieces bs))
+
+-- the words of a line: the pieces that are not empty
+unfoldable pub words : List ℕ → List (List ℕ)
+words line = filter (λ w. not (empty w)) (pieces line)
+
+-- the part of a line between two places
+abbrev pub part : ℕ → ℕ → List ℕ → List ℕ
+part from to line = take (to - from) (drop from line)
+
+-- how many blanks, or bytes that are none, stand at the front
+abbrev pub runOf : Bool → List ℕ → ℕ
+runOf blanks [] = 0
+runOf blanks (b ∷ bs) = cond (Bool·beq (blank b) blanks) (suc (runOf blanks bs)) 0
+
+-- the span of the first word from a place on: an empty one where there is none
+pub record NextWord (line : List ℕ) (at : ℕ) (r : Span) : Type 0 where
+  pub order : r .start ≤ r .end
+  pub inside : r .end ≤ length line
+  pub none : r .start ≡ r .end → words (drop at line) ≡ []
+  pub some : r .start < r .end → words (drop at line) ≡ part (r .start) (r .end) line ∷ words (drop (r .end) line)

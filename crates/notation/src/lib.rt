@@ -1,0 +1,144 @@
+// A schedule as text for people: one header or call a line, read and written.
+mod forms;
+mod numerals;
+mod putting;
+mod words;
+
+ghost use mathlib.Core.Path.{_≡_};
+ghost use mathlib.Core.List.{[], _∷_};
+ghost use Prim.Native.Nat.{_≤_, _<_};
+ghost use lib.ListN.{getD};
+ghost use Rattle.groups.specs.Buffers.{Writes};
+ghost use Rattle.transactions.specs.Calls.{small};
+ghost use Rattle.notation.specs.Words.{words as Words·words, NextWord};
+ghost use Rattle.notation.specs.Forms.{numbers as Forms·numbers, kinds, sense, senseOf};
+ghost use Rattle.notation.specs.Texts.{textOf, headerText};
+ghost use Rattle.notation.specs.Inner.{counted, Ranged};
+use forms::Operands;
+use forms::Three;
+use groups::Wrote;
+use groups::unturn;
+use sizes::Node;
+use sizes::Version;
+use transactions::Call;
+use transactions::Header;
+
+// From a place of a line up to another.
+pub struct Span {
+    pub start: usize,
+    pub end: usize,
+}
+
+// Why a line is none.
+pub enum Fault {
+    UnknownWord,
+    NumberMissing,
+    TooManyWords,
+    NotANumber,
+    OutOfRange,
+    StartMissing,
+}
+
+// What a line says: nothing where it has no word or is a remark.
+pub enum Line {
+    Nothing,
+    Header(Header),
+    Call(Call),
+    Fault(Fault),
+}
+
+// The first word of a line, so that an error can show it.
+pub fn first_word(line: &[u8]) -> Span
+    ensures { λ r. ⌜ NextWord (now (line .entry)) 0 r ⌝ }
+{
+    words::next_word(line, 0)
+}
+
+fn narrow(n: u64) -> u32
+    requires { ⌜ n ≤ small ⌝ }
+    ensures { λ r. ⌜ r ≡ n ⌝ }
+{
+    n as u32
+}
+
+// The header or call with this code and these numbers.
+fn line_of(code: usize, numbers: Three) -> Line
+    requires { ⌜ (code < 15) × Ranged (getD kinds code []) (counted code numbers) ⌝ }
+    ensures { λ r. ⌜ senseOf r ≡ Forms·numbers (code ∷ counted code numbers) ⌝ }
+{
+    let a = numbers.first;
+    let b = numbers.second;
+    let c = numbers.third;
+    match code {
+        0 => Line::Call(Call::Lookup(unturn(a))),
+        1 => Line::Call(Call::Insert(unturn(a), unturn(b), c)),
+        2 => Line::Call(Call::Remove(unturn(a))),
+        3 => Line::Call(Call::HandOver(Node(narrow(a)))),
+        4 => Line::Call(Call::Ceil(unturn(a))),
+        5 => Line::Call(Call::Floor(unturn(a))),
+        6 => Line::Call(Call::Succ(unturn(a))),
+        7 => Line::Call(Call::Pred(unturn(a))),
+        8 => Line::Call(Call::Fast(unturn(a), unturn(b))),
+        9 => Line::Call(Call::Open(unturn(a), unturn(b))),
+        10 => Line::Call(Call::Step(Version(narrow(a)), narrow(b))),
+        11 => Line::Call(Call::Close(Version(narrow(a)))),
+        12 => Line::Call(Call::Sweep),
+        13 => Line::Call(Call::Tally),
+        _ => Line::Header(Header {
+            capacity: narrow(a),
+            start: Version(narrow(c)),
+        }),
+    }
+}
+
+// Reads a line: a line feed in it counts as a space.
+pub fn read_line(line: &[u8]) -> Line
+    ensures { λ r. ⌜ senseOf r ≡ sense (Words·words (now (line .entry))) ⌝ }
+{
+    let word = words::next_word(line, 0);
+    let start = word.start;
+    let end = word.end;
+    if start == end {
+        return Line::Nothing;
+    }
+    if line[start] == b'#' {
+        return Line::Nothing;
+    }
+    let code = forms::code_of(line, start, end);
+    if code == forms::UNKNOWN {
+        return Line::Fault(Fault::UnknownWord);
+    }
+    let operands = forms::read_operands(line, end, code);
+    match operands {
+        Operands::Whole(numbers) => line_of(code, numbers),
+        Operands::Wrong(fault) => Line::Fault(fault),
+    }
+}
+
+// Writes a text at the front of a lent buffer.
+fn write_text(buffer: &mut [u8], text: &[u8]) -> Wrote
+    ensures { λ r. ⌜ Writes (now (text .entry)) (now (buffer .entry)) (now (buffer .exit)) r ⌝ }
+{
+    if buffer.len() < text.len() {
+        return Wrote::Refused(1);
+    }
+    Wrote::Length(listing::put_bytes(buffer, 0, text))
+}
+
+// Writes the text of a call at the front of a lent buffer.
+pub fn write_call(buffer: &mut [u8], call: Call) -> Wrote
+    ensures { λ r. ⌜ Writes (textOf call) (now (buffer .entry)) (now (buffer .exit)) r ⌝ }
+{
+    let mut text = [0u8; 80];
+    let end = putting::put_call(&mut text, call);
+    write_text(buffer, &text[..end])
+}
+
+// Writes the text of a header at the front of a lent buffer.
+pub fn write_header(buffer: &mut [u8], header: Header) -> Wrote
+    ensures { λ r. ⌜ Writes (headerText header) (now (buffer .entry)) (now (buffer .exit)) r ⌝ }
+{
+    let mut text = [0u8; 80];
+    let end = putting::put_header(&mut text, header);
+    write_text(buffer, &text[..end])
+}

@@ -1,0 +1,272 @@
+//! Times Lopresnik against other maps and prints tables. See tests/bench/hosts.sh.
+
+mod clock;
+mod lists;
+mod shims;
+mod skip_hash;
+mod subjects;
+mod work;
+
+use std::ops::Range;
+use std::time::Duration;
+
+use lists::{Batch, Calls, PlainBatch, Single};
+use shims::{Lmdb, StdMap};
+use subjects::{Directly, Hash, Out, Plain, Subject, Tree};
+use work::{Mix, Work, MIXES};
+
+/// So many runs of each subject.
+const RUNS: usize = 15;
+
+/// Operations in a list, and lists in a run.
+const LENGTH: usize = 10_000;
+const LISTS: usize = 20;
+
+/// A single entry point tests the tables each time, so it gets fewer operations.
+const SINGLE_LENGTH: usize = 500;
+
+const CAPACITY: usize = 4096;
+
+/// Runs under callgrind at most.
+const COUNTED: usize = 3;
+
+/// Long ranges in a list, one after another, and updates before each of their steps.
+const RANGES: usize = 16;
+const UPDATES: usize = 16;
+
+fn main() {
+    let words: Vec<String> = std::env::args().skip(1).collect();
+    let words: Vec<&str> = words.iter().map(String::as_str).collect();
+    match words[..] {
+        [] => print_all(),
+        ["mixes"] => print_mixes(false),
+        ["long"] => print_long_ranges(),
+        ["count", subject, mix, runs] => count(subject, mix, runs.parse().expect("a number")),
+        _ => panic!("usage: bench [mixes | long | count SUBJECT WORKLOAD RUNS]"),
+    }
+}
+
+fn print_all() {
+    print_mixes(false);
+    print_mixes(true);
+    print_long_ranges();
+    print_growth();
+    print_lengths();
+}
+
+/// Nanoseconds an operation of each subject. A first run compares every answer and pair with those of
+/// the first subject. Then all take turns so many times; each part of a run counts with its fastest
+/// time, since other work on the machine only ever slows it down.
+fn measure(work: &Work, subjects: &mut [Box<dyn Subject + '_>], runs: usize) -> Vec<f64> {
+    let mut out = Out::for_work(work);
+    compare(work, subjects, &mut out);
+    let parts = parts(work);
+    let mut fastest = vec![vec![Duration::MAX; parts.len()]; subjects.len()];
+    for _ in 0..runs {
+        for (subject, fastest) in subjects.iter_mut().zip(&mut fastest) {
+            subject.reset();
+            for (lists, fastest) in parts.iter().zip(fastest) {
+                let start = clock::spent();
+                lists.clone().for_each(|list| subject.run(list, &mut out));
+                *fastest = (clock::spent() - start).min(*fastest);
+            }
+        }
+    }
+    let operations = work.operations() as f64;
+    let total = |parts: &Vec<Duration>| parts.iter().sum::<Duration>().as_nanos() as f64;
+    fastest.iter().map(|parts| total(parts) / operations).collect()
+}
+
+/// Lists that are timed together, so that the clock itself does not count.
+fn parts(work: &Work) -> Vec<Range<usize>> {
+    let longest = work.lists.iter().map(Vec::len).max().unwrap_or(1);
+    let together = LENGTH.div_ceil(longest);
+    (0..work.lists.len())
+        .step_by(together)
+        .map(|first| first..(first + together).min(work.lists.len()))
+        .collect()
+}
+
+/// Panics unless every subject hands out and answers the same.
+fn compare(work: &Work, subjects: &mut [Box<dyn Subject + '_>], out: &mut Out) {
+    subjects.iter_mut().for_each(|subject| subject.reset());
+    for list in 0..work.lists.len() {
+        let mut expected = None;
+        for subject in subjects.iter_mut() {
+            subject.run(list, out);
+            let answers = subject.answers(list, out);
+            let pairs = (out.keys[..out.pairs].to_vec(), out.values[..out.pairs].to_vec());
+            let given = (answers, pairs);
+            let first = expected.get_or_insert_with(|| given.clone());
+            assert!(*first == given, "{} answers list {list} differently", subject.name());
+        }
+    }
+}
+
+/// Every subject that can do the mix.
+fn subjects_of<'work>(
+    work: &'work Work,
+    calls: &'work Calls,
+    has_ranges: bool,
+) -> Vec<Box<dyn Subject + 'work>> {
+    let mut subjects: Vec<Box<dyn Subject>> = vec![
+        Box::new(Batch::new(work, calls, false)),
+        Box::new(Batch::new(work, calls, true)),
+        Box::new(PlainBatch::new(work, calls)),
+        Box::new(Directly::<Plain>::new("plain direct", work)),
+        Box::new(Directly::<Tree>::new("BTreeMap", work)),
+        Box::new(StdMap::new(work)),
+        Box::new(Lmdb::new(work)),
+    ];
+    if !has_ranges {
+        subjects.push(Box::new(Directly::<Hash>::new("HashMap", work)));
+    }
+    subjects
+}
+
+const NAMES: [&str; 9] = [
+    "batch",
+    "single",
+    "batch, written",
+    "plain batch",
+    "plain direct",
+    "BTreeMap",
+    "std::map",
+    "LMDB",
+    "HashMap",
+];
+
+/// One line of a table: the workload, and what was measured by name.
+struct Line {
+    workload: String,
+    measured: Vec<(&'static str, f64)>,
+}
+
+impl Line {
+    fn of(&self, name: &str) -> Option<f64> {
+        self.measured.iter().find(|(measured, _)| *measured == name).map(|&(_, time)| time)
+    }
+}
+
+fn measure_mix(mix: Mix, scattered: bool) -> Line {
+    let work = Work::mixed(CAPACITY, scattered, mix, LISTS, LENGTH);
+    let calls = Calls::of_work(&work);
+    let mut subjects = subjects_of(&work, &calls, mix.ranges > 0);
+    let times = measure(&work, &mut subjects, RUNS);
+    let mut measured: Vec<_> = subjects.iter().map(|subject| subject.name()).zip(times).collect();
+    let few = Work::mixed(CAPACITY, scattered, mix, 1, SINGLE_LENGTH);
+    let few_calls = Calls::of_work(&few);
+    let mut single: Vec<Box<dyn Subject>> = vec![
+        Box::new(Directly::<Tree>::new("BTreeMap", &few)),
+        Box::new(Single::new(&few, &few_calls)),
+    ];
+    measured.push(("single", measure(&few, &mut single, 5)[1]));
+    Line { workload: mix.name.to_string(), measured }
+}
+
+fn print_mixes(scattered: bool) {
+    let keys = if scattered { "64-bit keys, scattered" } else { "keys 0 to 4095" };
+    let lines: Vec<Line> = MIXES.iter().map(|&mix| measure_mix(mix, scattered)).collect();
+    println!("\n### Workloads, {keys}: nanoseconds an operation\n");
+    print_table(&lines, &NAMES, |line, name| line.of(name), 1);
+    println!("\n### Workloads, {keys}: time of the other divided by that of the batch\n");
+    let ratio = |line: &Line, name: &str| Some(line.of(name)? / line.of("batch")?);
+    print_table(&lines, &NAMES[1..], ratio, 2);
+}
+
+fn print_table(
+    lines: &[Line],
+    names: &[&str],
+    cell: impl Fn(&Line, &str) -> Option<f64>,
+    digits: usize,
+) {
+    println!("| | {} |", names.join(" | "));
+    println!("|---|{}", "---:|".repeat(names.len()));
+    for line in lines {
+        let cells: Vec<String> = names
+            .iter()
+            .map(|name| cell(line, name).map_or("-".into(), |number| format!("{number:.digits$}")))
+            .collect();
+        println!("| {} | {} |", line.workload, cells.join(" | "));
+    }
+}
+
+/// A long range over everything in steps of 64, with updates between the steps.
+fn print_long_ranges() {
+    let work = Work::long_ranges(CAPACITY, 3, RANGES, UPDATES);
+    let calls = Calls::of_work(&work);
+    let mut subjects = subjects_of(&work, &calls, true);
+    let times = measure(&work, &mut subjects, RUNS);
+    let operations = work.lists[0].len() / RANGES;
+    let each = operations as f64 / 1000.0;
+    let measured = subjects.iter().map(|s| s.name()).zip(times.iter().map(|time| time * each));
+    let line = Line { workload: "microseconds".into(), measured: measured.collect() };
+    let batch = line.of("batch").expect("the batch is measured");
+    let ratios = line.measured.iter().map(|&(name, time)| (name, time / batch)).collect();
+    let ratios = Line { workload: "divided by the batch".into(), measured: ratios };
+    println!(
+        "\n### A long range over all keys in steps of 64, {UPDATES} updates before each step ({operations} operations), {RANGES} such ranges a list\n"
+    );
+    let names =
+        ["batch", "batch, written", "plain batch", "plain direct", "BTreeMap", "std::map", "LMDB"];
+    print_table(&[line, ratios], &names, |line, name| line.of(name), 2);
+}
+
+/// Cost an operation by the capacity.
+fn print_growth() {
+    let capacities = [64, 128, 256, 512, 1024, 2048, 4096];
+    for mix in [MIXES[0], MIXES[1]] {
+        let line = |&capacity: &usize| {
+            let work = Work::mixed(capacity, false, mix, LISTS, LENGTH);
+            let calls = Calls::of_work(&work);
+            let few = Work::mixed(capacity, false, mix, 1, SINGLE_LENGTH);
+            let few_calls = Calls::of_work(&few);
+            let mut subjects = subjects_of(&work, &calls, false);
+            let times = measure(&work, &mut subjects, 9);
+            let mut measured: Vec<_> = subjects.iter().map(|s| s.name()).zip(times).collect();
+            let mut single: Vec<Box<dyn Subject>> = vec![Box::new(Single::new(&few, &few_calls))];
+            measured.push(("single", measure(&few, &mut single, 5)[0]));
+            Line { workload: capacity.to_string(), measured }
+        };
+        let lines: Vec<Line> = capacities.iter().map(line).collect();
+        println!("\n### Growth with the capacity, {}: nanoseconds an operation\n", mix.name);
+        print_table(&lines, &NAMES, |line, name| line.of(name), 1);
+    }
+}
+
+/// Cost an operation by the length of a list: the soundness test is made once a list.
+fn print_lengths() {
+    let line = |&length: &usize| {
+        let work = Work::mixed(CAPACITY, false, MIXES[0], (100_000 / length).min(1000), length);
+        let calls = Calls::of_work(&work);
+        let mut subjects: Vec<Box<dyn Subject>> = vec![
+            Box::new(Batch::new(&work, &calls, false)),
+            Box::new(Directly::<Tree>::new("BTreeMap", &work)),
+        ];
+        let times = measure(&work, &mut subjects, 9);
+        let measured = subjects.iter().map(|s| s.name()).zip(times).collect();
+        Line { workload: length.to_string(), measured }
+    };
+    let lines: Vec<Line> = [1, 10, 100, 1000, 10_000, 100_000].iter().map(line).collect();
+    println!("\n### Lookups by the length of a list: nanoseconds an operation\n");
+    print_table(&lines, &["batch", "BTreeMap"], |line, name| line.of(name), 1);
+}
+
+/// Resets one subject `COUNTED` times and runs it after the first so many of them, to be counted by
+/// callgrind: the difference of two counts is that of the runs alone. Prints the operations of one run.
+fn count(subject: &str, mix: &str, runs: usize) {
+    let mix = *MIXES.iter().find(|known| known.name == mix).expect("a workload of the table");
+    let work = Work::mixed(CAPACITY, false, mix, 2, LENGTH);
+    let calls = Calls::of_work(&work);
+    let mut subjects = subjects_of(&work, &calls, mix.ranges > 0);
+    subjects.retain(|known| known.name() == subject);
+    let subject = subjects.first_mut().expect("a subject of the table");
+    let mut out = Out::for_work(&work);
+    for run in 0..COUNTED {
+        subject.reset();
+        if run < runs {
+            (0..work.lists.len()).for_each(|list| subject.run(list, &mut out));
+        }
+    }
+    println!("{} operations a run, {} bytes as calls", work.operations(), calls.bytes());
+}
