@@ -9,7 +9,9 @@ what its callees ensure. CRATE.txt has that: `use` lines, and of each function `
     taken, loaded-is      what load16 took out, and that it is `loaded` of the tickets
     made, ensured         what the call of the covered function answered, and what it ensures (made2, ensured2 of a second call)
     left, stored-is       what store16 left, and that it is `stored`
-It proves nothing: rt check does.
+names.txt has the names that a walk may use, by their modules; walk.py works out the positions in a walk's context, and source.py reads MIR and sources.
+What it takes: calls of load16 (first), of one or more covered functions that have their slices for good, and of store16; copies of lent records, of fields of what was answered,
+of the length of a slice; a store of a whole record behind a lent one. Types: unsigned numbers, i64, bool, structs, enums, sixteen tickets. It proves nothing: rt check does.
 """
 import os
 import re
@@ -511,4 +513,5 @@ def main():
         sys.exit('lent.py: not as the tool writes them: ' + ' '.join(stale))
 
 
-main()
+if __name__ == '__main__':
+    main()

@@ -3,3 +3,5 @@ pub mod Lining
 pub mod Sofar
 pub mod Fitting
 pub mod Parting
+pub mod Cutting
+pub mod Filing

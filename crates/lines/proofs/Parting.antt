@@ -54,7 +54,7 @@ module _ {A : Type 0} (out s : List A) {l : List A} {n : ℕ} (w : l ≡ written
 
 -- ---- the calls that were made
 
-history-length : (s : M.State) (cs : List C.Call) → length (M.history s cs) ≡ length cs
+pub history-length : (s : M.State) (cs : List C.Call) → length (M.history s cs) ≡ length cs
 unfolding M.history
 history-length s [] = refl
 history-length s (c ∷ cs) = ap suc (history-length (M.next s c) cs)
@@ -93,7 +93,7 @@ module _ {i : Input} {o : Output} (l : Listed i o) where
   abbrev pub made : History
   made = madeOn (i .tables) (l .made)
 
-  used-is : o .used ≡ length (bytesIn (l .made))
+  pub used-is : o .used ≡ length (bytesIn (l .made))
   unfolding leaves
   used-is = ap (λ (x : Output). x .used) (l .is)
 

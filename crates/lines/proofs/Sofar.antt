@@ -48,7 +48,7 @@ pairs-append : (xs ys : History) → pairsIn (xs ++ ys) ≡ pairsIn xs ++ pairsI
 pairs-append [] ys = refl
 pairs-append (x ∷ xs) ys = rw (pairs-append xs ys) (sym (append-assoc (C.pairsIn (x .1)) (pairsIn xs) (pairsIn ys)))
 
-lines-append : (before : ℕ) (xs ys : History) → linesBehind before (xs ++ ys) ≡ linesBehind before xs ++ linesBehind (before + length xs) ys
+pub lines-append : (before : ℕ) (xs ys : History) → linesBehind before (xs ++ ys) ≡ linesBehind before xs ++ linesBehind (before + length xs) ys
 lines-append before [] ys = let e : before + 0 ≡ before = omega arith in rw e
 lines-append before (x ∷ xs) ys =
     let e : before + suc (length xs) ≡ suc before + length xs = omega arith in

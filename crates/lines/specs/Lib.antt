@@ -1,3 +1,4 @@
 pub mod Lines
 pub mod Told
 pub mod Parts
+pub mod Files

@@ -3,14 +3,14 @@
 use mathlib.Core.Path.{_≡_, refl, sym, ap, _∙_}
 use mathlib.Core.Bool.{Bool, true, false, true≢false, cond, _&&_}
 use mathlib.Core.List.{List, [], _∷_, _++_}
-use Prim.Native.Nat.{ℕ, zero, suc, _+_, _-_, _≤_, _<_}
+use Prim.Native.Nat.{ℕ, suc, _+_, _-_, _≤_, _<_}
 use native.Mathlib.Omega.{arith}
 use native.Mathlib.Nat.{le-antisymm}
 use native.Mathlib.Numerals.{add-one}
 use lib.Dec.{eqb, leb}
-use lib.ListN.{length, take, drop, getD, set, length-take, length-set, drop-of-length-le, List·getD-map, List·getD-append}
+use lib.ListN.{length, take, drop, getD, set, drop-of-length-le, List·getD-map, List·getD-append}
 use lib.Seq.{length-take-le, drop-cons, take-suc-set, getD-take}
-use borrow.Author.Tests.{eq-eqb, ne-eqb, eqb-true, leb-true}
+use borrow.Author.Tests.{eq-eqb, eqb-true, leb-true}
 use Rattle.lists.proofs.Entries.{tested-getD}
 use Rattle.notation.specs.declared.Fault.{Fault}
 use Rattle.notation.specs.declared.Fault.the-variants.{NumberMissing, TooManyWords, StartMissing}
@@ -20,7 +20,7 @@ use Rattle.notation.specs.declared.forms.Name.{Name}
 use Rattle.notation.specs.declared.forms.Form.{Form}
 use Rattle.notation.specs.declared.Span.{Span}
 use Rattle.notation.specs.Words.{words, part, NextWord}
-use Rattle.notation.specs.Forms.{names, start, nameOf, kinds, same, find, operand, Sense, nothing, numbers, wrong, with, next, operands}
+use Rattle.notation.specs.Forms.{names, start, nameOf, kinds, same, find, operand, Sense, numbers, wrong, with, next, operands}
 use Rattle.notation.specs.Inner.{NameOf, FormOf, counted}
 
 -- the code's tables

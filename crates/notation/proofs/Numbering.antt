@@ -1,19 +1,18 @@
 -- Laws of the numbers of words: the digits one after another, and the range of each kind.
 -- Assumes nothing.
-use mathlib.Core.Path.{_≡_, refl, sym, ap, _∙_}
+use mathlib.Core.Path.{_≡_, refl, sym, ap}
 use mathlib.Core.Bool.{Bool, true, false, true≢false, cond, _&&_}
 use mathlib.Core.List.{List, [], _∷_}
 use Prim.Native.Nat.{ℕ, zero, suc, _+_, _-_, _*_, _^_, _≤_, _<_}
 use native.Mathlib.Omega.{arith}
 use native.Mathlib.Numerals.{add-one}
 use lib.Dec.{eqb, leb}
-use lib.ListN.{length, take, drop, getD}
+use lib.ListN.{length, getD}
 use lib.Seq.{drop-cons}
 use borrow.Author.Tests.{le-leb, lt-leb, leb-true, leb-false, lt-ltb, le-ltb, eq-eqb, ne-eqb}
 use Rattle.listing.specs.Decimals.{worthFrom}
 use Rattle.transactions.specs.Calls.{any, small}
 use Rattle.notation.specs.declared.Fault.the-variants.{NotANumber, OutOfRange}
-use Rattle.notation.specs.declared.numerals.Value.{Value}
 use Rattle.notation.specs.declared.numerals.Value.the-variants.{Of, Wrong}
 use Rattle.notation.specs.declared.numerals.Worth.{Worth}
 use Rattle.notation.specs.Words.{part}

@@ -3,16 +3,16 @@
 use mathlib.Core.Path.{_≡_, refl, sym, ap, _∙_}
 use mathlib.Core.Bool.{Bool, true, false, cond}
 use mathlib.Core.List.{List, [], _∷_}
-use Prim.Native.Nat.{ℕ, _+_, _≤_, _<_}
+use Prim.Native.Nat.{ℕ, _≤_, _<_}
 use native.Mathlib.Omega.{arith}
 use lib.Dec.{eqb, leb}
 use lib.IntN.{ℤ, pos, negsuc}
-use lib.ListN.{length, drop, getD}
+use lib.ListN.{drop, getD}
 use borrow.Author.Tests.{eq-eqb, ne-eqb, leb-true}
 use Rattle.listing.specs.Decimals.{worthFrom}
 use Rattle.transactions.specs.Calls.{small}
 use Rattle.notation.specs.declared.Fault.{Fault}
-use Rattle.notation.specs.declared.Fault.the-variants.{UnknownWord, NotANumber, OutOfRange, StartMissing}
+use Rattle.notation.specs.declared.Fault.the-variants.{UnknownWord, NotANumber, StartMissing}
 use Rattle.notation.specs.declared.numerals.Value.{Value}
 use Rattle.notation.specs.declared.numerals.Value.the-variants.{Of, Wrong}
 use Rattle.notation.specs.declared.Span.{Span}

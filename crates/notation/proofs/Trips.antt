@@ -1,9 +1,9 @@
 -- Laws of reading and writing: a text that was written is read back as the call or header that it is of, and an answer is the only one.
 -- Assumes nothing.
 use mathlib.Core.Path.{_≡_, refl, sym, ap, _∙_}
-use mathlib.Core.Bool.{Bool, true, false, true≢false, not, _&&_}
+use mathlib.Core.Bool.{Bool, true, false, not}
 use mathlib.Core.List.{List, [], _∷_, _++_, map, append-assoc, append-nil}
-use Prim.Native.Nat.{ℕ, zero, suc, _+_, _^_, _≤_, _<_}
+use Prim.Native.Nat.{ℕ, suc, _+_, _^_, _≤_, _<_}
 use native.Mathlib.Omega.{arith}
 use lib.IntN.{ℤ, pos, negsuc}
 use lib.ListN.{length, take, drop}
@@ -18,7 +18,7 @@ use Rattle.groups.specs.declared.Wrote.the-variants.{Length}
 use Rattle.groups.specs.Buffers.{Writes}
 use Rattle.groups.specs.Signs.{turned}
 use Rattle.groups.proofs.Writing.{writes-length}
-use Rattle.listing.specs.Decimals.{Digit, worthFrom, digits, integer}
+use Rattle.listing.specs.Decimals.{Digit, digits, integer}
 use Rattle.listing.specs.Lines.{spaced, lineAfter}
 use Rattle.listing.proofs.Digits.{digits-some, digits-decimal}
 use Rattle.transactions.specs.declared.Header.{Header}
@@ -30,7 +30,7 @@ use Rattle.notation.specs.declared.Line.{Line}
 use Rattle.notation.specs.declared.numerals.Value.the-variants.{Of}
 use Rattle.notation.specs.Words.{blank, pieces, words}
 use Rattle.notation.specs.Numerals.{allDigits, integerOf, valueAs, digitsValue, number}
-use Rattle.notation.specs.Forms.{names, start, nameOf, kinds, find, Sense, numbers, remark, formed, sense, senseOf}
+use Rattle.notation.specs.Forms.{names, start, nameOf, kinds, find, numbers, remark, formed, sense, senseOf}
 use Rattle.notation.specs.Texts.{textOf, headerText}
 use Rattle.notation.proofs.Wording.{words-none}
 use Rattle.notation.proofs.Numbering.{digits-right}

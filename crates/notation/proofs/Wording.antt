@@ -1,17 +1,17 @@
 -- Laws of the words of a line: a run of blanks or of other bytes, the next word, and words with blanks between them.
 -- Assumes nothing.
-use mathlib.Core.Path.{_≡_, refl, sym, ap, _∙_}
+use mathlib.Core.Path.{_≡_, refl, sym, ap, ap₂, _∙_}
 use mathlib.Core.Bool.{Bool, true, false, cond, not, Bool·beq}
-use mathlib.Core.List.{List, [], _∷_, _++_}
-use Prim.Native.Nat.{ℕ, zero, suc, _+_, _-_, _≤_, _<_}
+use mathlib.Core.List.{List, [], _∷_}
+use Prim.Native.Nat.{ℕ, suc, _+_, _-_, _≤_, _<_}
 use native.Mathlib.Omega.{arith}
 use native.Mathlib.Numerals.{add-one}
 use borrow.Author.Tests.{not-true, not-false}
-use lib.ListN.{length, take, drop, getD, length-drop, drop-of-length-le}
-use lib.Seq.{drop-cons, drop-drop, take-nil, drop-nil}
+use lib.ListN.{length, take, drop, getD, drop-of-length-le}
+use lib.Seq.{drop-cons, drop-drop}
 use Rattle.lists.specs.Filters.{filter, empty}
 use Rattle.notation.specs.declared.Span.{Span}
-use Rattle.notation.specs.Words.{blank, onto, pieces, words, part, runOf, NextWord}
+use Rattle.notation.specs.Words.{blank, pieces, words, runOf, NextWord}
 
 -- a run at a place, by what the code's test of the byte there answers: it ends there, it goes on, or the line ends
 module _ (blanks : Bool) (line : List ℕ) (i : ℕ) where
@@ -84,6 +84,13 @@ pub words-none : words [] ≡ []
 unfolding words
 words-none = refl
 
+-- LAW: two answers on the next word are equal
+pub next-same : {line : List ℕ} {at : ℕ} {r s : Span} → NextWord line at r → NextWord line at s → r ≡ s
+next-same {line} {at} {r} {s} v w =
+    let e : r .start ≡ s .start = v .starts ∙ sym (w .starts) in
+    let f : r .end ≡ s .end = v .ends ∙ ap (λ n. n + runOf false (drop n line)) e ∙ sym (w .ends) in
+    ap₂ {C = Span} (λ m n. record { start = m; end = n }) e f
+
 -- LAW: the run behind the blanks is the next word
 pub next-word : (line : List ℕ) (at start end : ℕ) → start ≡ at + runOf true (drop at line) → end ≡ start + runOf false (drop start line) → end ≤ length line
     → NextWord line at (record { start = start; end = end })
@@ -92,6 +99,8 @@ next-word line at start end e f l =
     let w : words (drop at line) ≡ words (drop start line) = words-past (drop at line) ∙ ap words (sym d) in
     let k : end - start ≡ runOf false (drop start line) = omega arith in
     record {
+      starts = e;
+      ends = f;
       order = omega arith;
       inside = l;
       none = λ q. w ∙ ap words (d ∙ past-none (drop at line) (rw d at (let z : runOf false (drop start line) ≡ 0 = omega arith in z))) ∙ words-none;

@@ -1,11 +1,10 @@
 -- The forms of a line: a name, and what must stand behind it.
 -- Assumes nothing.
-use mathlib.Core.Path.{_≡_}
 use mathlib.Core.Bool.{Bool, true, false, cond, _&&_}
 use mathlib.Core.List.{List, [], _∷_, _++_}
-use Prim.Native.Nat.{ℕ, zero, suc, _≤_}
+use Prim.Native.Nat.{ℕ, suc}
 use lib.Dec.{eqb}
-use lib.ListN.{length, getD, take}
+use lib.ListN.{getD}
 use Rattle.transactions.specs.Calls.{numbersOf}
 use Rattle.notation.specs.declared.Fault.{Fault}
 use Rattle.notation.specs.declared.Fault.the-variants.{UnknownWord, NumberMissing, TooManyWords, StartMissing}

@@ -1,9 +1,9 @@
 -- The words of a line: what stands between blanks.
 -- Assumes nothing.
 use mathlib.Core.Path.{_≡_}
-use mathlib.Core.Bool.{Bool, cond, not, _||_, Bool·beq}
+use mathlib.Core.Bool.{Bool, true, false, cond, not, _||_, Bool·beq}
 use mathlib.Core.List.{List, [], _∷_}
-use Prim.Native.Nat.{ℕ, suc, _-_, _≤_, _<_}
+use Prim.Native.Nat.{ℕ, suc, _+_, _-_, _≤_, _<_}
 use lib.Dec.{eqb}
 use lib.ListN.{length, take, drop}
 use Rattle.lists.specs.Filters.{filter, empty}
@@ -36,8 +36,10 @@ abbrev pub runOf : Bool → List ℕ → ℕ
 runOf blanks [] = 0
 runOf blanks (b ∷ bs) = cond (Bool·beq (blank b) blanks) (suc (runOf blanks bs)) 0
 
--- the span of the first word from a place on: an empty one where there is none
+-- the span of the first word from a place on, behind the blanks there: an empty one where there is no word
 pub record NextWord (line : List ℕ) (at : ℕ) (r : Span) : Type 0 where
+  pub starts : r .start ≡ at + runOf true (drop at line)
+  pub ends : r .end ≡ r .start + runOf false (drop (r .start) line)
   pub order : r .start ≤ r .end
   pub inside : r .end ≤ length line
   pub none : r .start ≡ r .end → words (drop at line) ≡ []

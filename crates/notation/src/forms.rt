@@ -16,9 +16,10 @@ use crate::numerals::START;
 use crate::numerals::Value;
 use crate::words;
 
-// The number of the header's form, behind the codes of the calls; that of the word `start`; and what a word counts as that begins no line.
+// Behind the names of the fourteen calls, by code, and of the header: the word `start`.
 const START_NAME: usize = 15;
 
+// The number of a word that is none of the fifteen names.
 pub const UNKNOWN: usize = 15;
 
 // A name: the first letters, as many as its length says.

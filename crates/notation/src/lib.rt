@@ -29,7 +29,7 @@ pub struct Span {
     pub end: usize,
 }
 
-// Why a line is none.
+// Why a line is neither a header nor a call.
 pub enum Fault {
     UnknownWord,
     NumberMissing,
@@ -91,7 +91,7 @@ fn line_of(code: usize, numbers: Three) -> Line
     }
 }
 
-// Reads a line: a line feed in it counts as a space.
+// Reads a line: words with blanks between them, a line feed being one; numbers in decimal, `-` in front of a negative one, zeros in front allowed.
 pub fn read_line(line: &[u8]) -> Line
     ensures { λ r. ⌜ senseOf r ≡ sense (Words·words (now (line .entry))) ⌝ }
 {

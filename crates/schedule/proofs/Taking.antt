@@ -17,7 +17,7 @@ use Rattle.schedule.specs.declared.Window.{Window}
 use Rattle.schedule.specs.declared.Session.{Session}
 use Rattle.schedule.specs.declared.Lengths.{Lengths}
 use Rattle.schedule.specs.Windows.{Held, countOf, placeOf, leftOf, inputSize, Ends}
-use Rattle.schedule.specs.Sessions.{Rooms, Memory, TakenBy, lengthsOf}
+use Rattle.schedule.specs.Sessions.{Rooms, Memory, lengthsOf}
 
 -- LAW: the lengths are those that they were
 pub rooms-kept : {i a k v o i′ a′ k′ v′ o′ : ℕ} → i′ ≡ i → a′ ≡ a → k′ ≡ k → v′ ≡ v → o′ ≡ o → Rooms i a k v o → Rooms i′ a′ k′ v′ o′
@@ -55,12 +55,12 @@ module _ {i : Input} {before len : ℕ} {out last : List ℕ} {o : Output} (p : 
         omega (arith, x .few, x .bytes, h .order, h .counted, h .known)
 
 -- LAW: a session that goes on has less left, and one that is over has nothing
-pub less-taken : {s s′ : Session} → s .over ≡ false → TakenBy s s′ → cond (s′ .over) 0 (suc (leftOf (s′ .window))) < cond (s .over) 0 (suc (leftOf (s .window)))
-less-taken {s} {s′} e t = rw e (go (s′ .over) refl)
+pub less-taken : (s s′ : Session) → s .over ≡ false → (s′ .over ≡ false → leftOf (s′ .window) < leftOf (s .window)) → cond (s′ .over) 0 (suc (leftOf (s′ .window))) < cond (s .over) 0 (suc (leftOf (s .window)))
+less-taken s s′ e t = rw e (go (s′ .over) refl)
   where
     go : (b : Bool) → s′ .over ≡ b → cond (s′ .over) 0 (suc (leftOf (s′ .window))) < suc (leftOf (s .window))
     go true f = rw f (omega arith)
-    go false f = rw f (omega (arith, t f .less))
+    go false f = rw f (omega (arith, t f))
 
 -- the parts that are lent are parts of the memory
 lengths-fit : (s : Sized) → (lengthsOf s .nodes ≤ 256) × (lengthsOf s .rows ≤ 8256) × (lengthsOf s .buckets ≤ 367)

@@ -58,15 +58,16 @@ leftOf w = (2 ^ 64 - w .read) * 131074 + (cond (w .more) 65537 0 + countOf w)
 abbrev pub behind : Window → ℕ → Window
 behind w k = record { from = w .from + k; to = w .to; read = w .read; more = w .more }
 
--- going on behind so many bytes
-pub record Goes (w : Window) (k : ℕ) (w′ : Window) : Type 0 where
+-- going on behind so many bytes: those left come first
+pub record Goes (w : Window) (buffer : List ℕ) (k : ℕ) (w′ : Window) (buffer′ : List ℕ) : Type 0 where
   pub held : Held w′ inputSize
   pub place : placeOf w′ ≡ placeOf w + k
+  pub kept : take (countOf w - k) (heldIn w′ buffer′) ≡ drop k (heldIn w buffer)
   pub less : leftOf w′ < leftOf w
 
 -- what comes next, unless it is over
-abbrev pub NextBy : Window → ℕ → Next → Type 0
-NextBy w k r = r .over ≡ false → Goes w k (r .window)
+abbrev pub NextBy : Window → List ℕ → ℕ → Next → List ℕ → Type 0
+NextBy w buffer k r buffer′ = r .over ≡ false → Goes w buffer k (r .window) buffer′
 
 -- where a part may end: for want of room only behind some bytes, and at an offset only within them
 pub record Ends (w : Window) (k : ℕ) (end : End) : Type 0 where

@@ -11,11 +11,11 @@ use tables::Ticket;
 use transactions::Header;
 use transactions::HeaderReading;
 ghost use mathlib.Core.Path.{_≡_};
-ghost use Prim.Native.Nat.{_-_, _≤_, min};
+ghost use Prim.Native.Nat.{_+_, _-_, _≤_, min};
 ghost use lib.ListN.{length, take, drop};
 ghost use Rattle.sizes.specs.Sizes.{sizeOf};
-ghost use Rattle.schedule.specs.Windows.{inputSize, Held, FetchedBy, FirstBy, Ends, NextBy};
-ghost use Rattle.schedule.specs.Sessions.{Ready, TakenBy, Rooms, Memory, lengthsOf};
+ghost use Rattle.schedule.specs.Windows.{inputSize, Held, countOf, placeOf, FetchedBy, FirstBy, Ends, NextBy};
+ghost use Rattle.schedule.specs.Sessions.{Ready, tablesOf, TakenBy, Rooms, Memory, lengthsOf};
 
 // The nodes, cells of rows and buckets that there is memory for: those of capacity 256.
 const NODES: usize = 256;
@@ -181,7 +181,7 @@ struct Next {
 // Prints `end` where the input ended, or else reads on.
 fn read_on(input: &mut [u8], window: Window) -> Next
     requires { ⌜ Held window inputSize × (length (now input) ≡ inputSize) ⌝ }
-    ensures { λ r. ⌜ NextBy window 0 r ⌝ }
+    ensures { λ r. ⌜ NextBy window (now (input .entry)) 0 r (now (input .exit)) ⌝ }
 {
     if !window.more {
         print_end();
@@ -197,18 +197,23 @@ fn read_on(input: &mut [u8], window: Window) -> Next
     }
 }
 
+// The offset in standard input of a place behind the first byte held.
+fn offset_of(window: Window, place: usize) -> u64
+    requires { ⌜ Held window inputSize × (place ≤ countOf window) ⌝ }
+    ensures { λ r. ⌜ r ≡ placeOf window + place ⌝ }
+{
+    window.read - (window.to - window.from) as u64 + place as u64
+}
+
 // What comes behind a part that used so many of the bytes held and ended so.
 fn go_on(input: &mut [u8], window: Window, used: usize, end: End) -> Next
     requires { ⌜ Held window inputSize × (length (now input) ≡ inputSize) × Ends window used end ⌝ }
-    ensures { λ r. ⌜ NextBy window used r ⌝ }
+    ensures { λ r. ⌜ NextBy window (now (input .entry)) used r (now (input .exit)) ⌝ }
 {
-    let from = window.from;
-    let to = window.to;
-    let read = window.read;
     let behind = Window {
-        from: from + used,
-        to,
-        read,
+        from: window.from + used,
+        to: window.to,
+        read: window.read,
         more: window.more,
     };
     match end {
@@ -219,7 +224,7 @@ fn go_on(input: &mut [u8], window: Window, used: usize, end: End) -> Next
             over: false,
         },
         End::Stop(place) => {
-            print_number(b"stop", read - (to - from) as u64 + place as u64);
+            print_number(b"stop", offset_of(window, place));
             Next { window, over: true }
         }
         End::Refused(_) => {
@@ -252,7 +257,7 @@ fn take_part(
     out: &mut [u8],
 ) -> Session
     requires { ⌜ Ready session × Rooms (length (now input)) (length (now answers)) (length (now «out_keys»)) (length (now «out_values»)) (length (now out)) ⌝ }
-    ensures { λ r. ⌜ TakenBy session r ⌝ }
+    ensures { λ r. ⌜ TakenBy (tablesOf (now (keys .entry)) (now (values .entry)) (now (rows .entry)) (now (buckets .entry)) session) session (now (input .entry)) (now (answers .entry)) (now («out_keys» .entry)) (now («out_values» .entry)) (tablesOf (now (keys .exit)) (now (values .exit)) (now (rows .exit)) (now (buckets .exit)) r) r (now (input .exit)) ⌝ }
 {
     let window = session.window;
     let from = window.from;
