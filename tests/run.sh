@@ -124,10 +124,10 @@ include() {
 
 # The walks of a crate's lent forms stand in the tree as tools/lent writes them.
 check_walks() {
-  if tools/lent/lent.py "$1" --check; then
+  if "$1" "$2" --check; then
     passed=$((passed + 1))
   else
-    fail "the walks of $1 are not as tools/lent/lent.py writes them"
+    fail "the walks of $2 are not as $1 writes them"
   fi
 }
 
@@ -143,7 +143,9 @@ else
   fail "the corpus could not be written"
 fi
 compare_verdicts
-check_walks lent
+check_walks tools/lent/lent.py tickets_open
+check_walks tools/lent/lent.py lent
+check_walks tools/lent/export.py lopresnik
 include tests/schedule.sh
 include env -u CARGO_TARGET_DIR tests/hosts.sh
 finish
