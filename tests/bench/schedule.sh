@@ -7,6 +7,8 @@ set -eu
 cd "$(dirname "$0")/../.."
 
 work=$(mktemp -d)
+# rt runs the program as nobody, who must reach the shadow of the kit
+chmod 755 "$work"
 trap 'rm -rf "$work"' EXIT
 second="$PWD/target/second/fast/second"
 schedule="$PWD/target/bin/schedule"
@@ -30,8 +32,8 @@ build_native() {
   schedule="$work/schedule"
 }
 
-# The seconds that a program takes for the file.
-seconds() {
+# The microseconds that a program takes for the file.
+microseconds() {
   local start end
   start=$(date +%s%N)
   "$1" <"$work/file" >"$work/lines"
@@ -48,9 +50,9 @@ if [ "$(uname -m)" = x86_64 ]; then rt check schedule >"$work/log" 2>&1 || { cat
 least_schedule=999999999
 least_second=999999999
 for _ in 1 2 3 4 5 6 7; do
-  time=$(seconds "$schedule")
+  time=$(microseconds "$schedule")
   [ "$time" -ge "$least_schedule" ] || least_schedule=$time
-  time=$(seconds "$second")
+  time=$(microseconds "$second")
   [ "$time" -ge "$least_second" ] || least_second=$time
 done
 echo "a million transactions, $(stat -c %s "$work/file") bytes in, $(stat -c %s "$work/second.lines") bytes out"
