@@ -36,6 +36,12 @@ text_makes_file() {
     tools/run write_schedule <"$work/text" | cmp - "examples/$1/calls.schedule"
 }
 
+# The situations of document 01, which both programs run to the end.
+same_situation() {
+  tools/run write_schedule <"$1" >"$work/situation" && "$programs/second" <"$work/situation" >"$work/expected" &&
+    [ "$(tail -n 1 "$work/expected")" = end ] && $schedule <"$work/situation" | cmp - "$work/expected"
+}
+
 # In pieces of so many bytes, each taken before the next one comes.
 same_in_pieces() {
   "$programs/feed" "$1" $schedule <"$2" 2>/dev/null | cmp - "$3"
@@ -68,6 +74,11 @@ full_output() {
   says_so "writing standard output" "$?"
 }
 
+closed_output() {
+  timeout 60 $schedule <"$work/short" >&- 2>"$work/said"
+  says_so "writing standard output" "$?"
+}
+
 # A reader that leaves early gets the first lines, and the program ends.
 early_reader() {
   timeout 60 $schedule <"$work/long" 2>/dev/null | head -n 3 >"$work/wrote"
@@ -84,6 +95,9 @@ for example in listing clocks; do
   expect "the example $example" same_as_example "$example"
   expect "the text of the example $example" text_makes_file "$example"
 done
+for situation in tests/situations/*.txt; do
+  expect "the situation $situation" same_situation "$situation"
+done
 for piece in 1 2 3 5 7 11 30 31 32 33 64 100 4096 65535 65537; do
   expect "the listing in pieces of $piece" same_in_pieces "$piece" examples/listing/calls.schedule examples/listing/lines.txt
   expect "100,000 bytes in pieces of $piece" same_in_pieces "$piece" "$work/short" "$work/short.lines"
@@ -92,6 +106,7 @@ expect "a million transactions" same_in_pieces 65536 "$work/long" "$work/long.li
 expect "memory that grows with the input" memory_is_constant
 expect "input that cannot be read" unreadable_input
 expect "output that cannot be written" full_output
+expect "output that is closed" closed_output
 expect "a reader that leaves early" early_reader
 
 echo "$passed passed, $failed failed"
