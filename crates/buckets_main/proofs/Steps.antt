@@ -2,13 +2,13 @@
 -- Assumes nothing.
 use mathlib.Core.Path.{_≡_, _∙_, ap}
 use mathlib.Core.List.{List}
-use Prim.Native.Nat.{ℕ, _+_, _*_, _<_}
+use Prim.Native.Nat.{ℕ, _+_, _*_, _/_, _<_}
 use native.Mathlib.Omega.{arith}
 use native.Mathlib.Decide.{ℕ-discrete}
-use lib.ListN.{length, set, replicate, length-replicate, getD-replicate, length-set}
+use lib.ListN.{length, getD, set, replicate, length-replicate, getD-replicate, length-set}
 use lib.Seq.{getD-set-same, getD-set-other}
-use Rattle.rows.specs.Rows.{column, put, upd, chains, places}
-use Rattle.rows.proofs.Columns.{upd-same, upd-other, length-put, column-same, column-other}
+use Rattle.rows.specs.Rows.{address, column, put, upd, chains, places}
+use Rattle.rows.proofs.Columns.{column-in, inside, upd-same, upd-other, length-put, column-same, column-other}
 use Rattle.buckets.specs.Buckets.{firstOf, Buckets}
 use Rattle.buckets.specs.Finding.{Holds}
 use Rattle.buckets.specs.Changes.{rowsWith, bucketsWith, rowsWithout, bucketsWithout}
@@ -16,12 +16,17 @@ use Rattle.buckets.proofs.Framing.{with-column, with-rows, chains-with, without
 use Rattle.buckets.proofs.Keeping.{buckets-fresh, buckets-added, buckets-dropped, on-chain}
 use Rattle.buckets_main.specs.Fresh.{Fresh}
 
-place-zero : (rows : List ℕ) → rows ≡ replicate 2112 0 → (n : ℕ) → n < 64 → places rows n ≡ 0
-unfolding column
-place-zero rows e n l = rw e (getD-replicate 2112 (n * 32 + 3) 0 0 (omega arith))
-
 pub row-count : (rows : List ℕ) → rows ≡ replicate 2112 0 → length rows ≡ 2112
 row-count rows e = ap (length {A = ℕ}) e ∙ length-replicate {A = ℕ} 2112 0
+
+place-zero : (rows : List ℕ) → rows ≡ replicate 2112 0 → (n : ℕ) → n < 64 → places rows n ≡ 0
+place-zero rows e n l =
+    let k : length rows ≡ 2112 = row-count rows e in
+    let h : n < length rows / 32 = omega (arith, k) in
+    let i = inside (length rows / 32) n 3 h (omega arith) in
+    column-in rows 3 n h
+    ∙ ap (λ r. getD r (address (length rows / 32) n 3) 0) e
+    ∙ getD-replicate 2112 (address (length rows / 32) n 3) 0 0 (omega (arith, i, k))
 
 -- cleared: no node is present
 pub cleared : (keys rows buckets buckets′ : List ℕ) → Fresh keys rows buckets → buckets′ ≡ replicate (length buckets) 64 → Buckets keys rows buckets′ 64

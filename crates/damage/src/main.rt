@@ -15,8 +15,8 @@ const CAPACITY: u32 = 64;
 // The number of the tail sentinel.
 const TAIL: u32 = 65;
 
-// The cell of `rows` that says where the ring begins: column 7 of the head's row.
-const RING_FRONT: usize = 2055;
+// The cell of `rows` that says where the ring begins: column 7 of the head, which stands at 66 + 64.
+const RING_FRONT: usize = 130;
 
 // In how many ways each cell is damaged.
 const WAYS: usize = 9;

@@ -153,7 +153,8 @@ fn damage_cell(random: &mut Random, tables: &mut Tables) {
             // Half of the time a field or a link of the lowest levels, else any cell.
             let row = random.below(rows.len() / lopresnik::ROW + 1);
             let column = random.below([12, lopresnik::ROW][random.clone().below(2)]);
-            let place = (row * lopresnik::ROW + column).min(rows.len() - 1);
+            let place =
+                judge::address(rows.len() / lopresnik::ROW, row, column).min(rows.len() - 1);
             number(random, &mut rows[place]);
         }
         _ => {}

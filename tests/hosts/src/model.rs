@@ -4,6 +4,7 @@ use std::collections::{BTreeMap, VecDeque};
 use std::ops::Bound::{Excluded, Included, Unbounded};
 
 use lopresnik::{Node, Refusal, Tables, Version, ROW, TICKETS};
+use second::tables::address;
 
 use crate::calls::{Answer, Call};
 
@@ -195,7 +196,8 @@ fn first<'map>(
 impl Model {
     pub fn of_tables(tables: &Tables) -> Model {
         let capacity = tables.keys.len();
-        let cell = |row: usize, column: usize| tables.rows[row * ROW + column];
+        let rows = tables.rows.len() / ROW;
+        let cell = |row: usize, column: usize| tables.rows[address(rows, row, column)];
         let key = |node: usize| (tables.keys[node] ^ (1 << 63)) as i64;
         let mut order = Vec::new();
         let mut node = cell(capacity, 8) as usize;

@@ -5,7 +5,7 @@
 
 use std::collections::BTreeSet;
 
-/// Cells of a node's row, or of a sentinel's.
+/// Cells of a node, or of a sentinel.
 pub const ROW: usize = 32;
 const HEIGHT: usize = 0;
 const INSERTED: usize = 1;
@@ -86,6 +86,21 @@ pub enum Condition {
 
 type Checked = Result<(), Condition>;
 
+/// Where a cell stands, of so many rows: four columns by themselves, then rows of 16 cells (the
+/// other fields and the links up to level 5), then rows of 12 (the links of the levels above).
+pub fn address(rows: usize, row: usize, column: usize) -> usize {
+    match column {
+        LINKS => row,
+        RING => rows + row,
+        FREE => 2 * rows + row,
+        PLACE => 3 * rows + row,
+        HEIGHT..=REMOVED => 4 * rows + 16 * row + column,
+        SEAT..=CHAIN => 4 * rows + 16 * row + column - 1,
+        9..=19 => 4 * rows + 16 * row + column - 4,
+        _ => 20 * rows + 12 * row + column - 20,
+    }
+}
+
 fn demand(holds: bool, condition: Condition) -> Checked {
     if holds {
         Ok(())
@@ -130,7 +145,12 @@ impl Tables {
     }
 
     fn set(&mut self, row: usize, column: usize, value: usize) {
-        self.rows[row * ROW + column] = value as u32;
+        let place = self.address(row, column);
+        self.rows[place] = value as u32;
+    }
+
+    fn address(&self, row: usize, column: usize) -> usize {
+        address(self.rows.len() / ROW, row, column)
     }
 
     fn capacity(&self) -> usize {
@@ -138,11 +158,11 @@ impl Tables {
     }
 
     fn cell(&self, row: usize, column: usize) -> usize {
-        self.rows[row * ROW + column] as usize
+        self.rows[self.address(row, column)] as usize
     }
 
     fn place(&self, node: usize) -> u32 {
-        self.rows[node * ROW + PLACE]
+        self.rows[self.address(node, PLACE)]
     }
 
     fn after(&self, level: usize, node: usize) -> usize {

@@ -26,7 +26,8 @@ fn rank(key: i64) -> u64 {
 }
 
 fn set(tables: &mut Tables, row: usize, column: usize, value: u32) {
-    tables.rows[row * 32 + column] = value;
+    let place = second::tables::address(tables.rows.len() / 32, row, column);
+    tables.rows[place] = value;
 }
 
 fn after(level: usize) -> usize {
@@ -218,24 +219,26 @@ fn written(tables: &Tables, cell: &str) -> String {
 
 #[test]
 fn verdicts_are_compared_one_by_one() {
-    // The height of node 0, which is 1 and on one level only.
-    let right = compare(&written(&tables(), "rows 0 010000000")).unwrap();
+    // The height of node 0, at 4 * 66, which is 1 and on one level only.
+    let right = compare(&written(&tables(), "rows 264 010000000")).unwrap();
     assert_eq!((right.cells, right.sound, right.damaged), (1, 1, 8));
     assert!(right.differences.is_empty());
-    let wrong = compare(&written(&tables(), "rows 0 011000001")).unwrap();
+    let wrong = compare(&written(&tables(), "rows 264 011000001")).unwrap();
     assert_eq!(wrong.differences.len(), 2);
 }
 
 #[test]
 fn other_texts_are_no_answer() {
-    let whole = written(&tables(), "rows 0 010000000");
+    let whole = written(&tables(), "rows 264 010000000");
     assert!(compare("").is_err());
     assert!(compare(whole.strip_suffix("end\n").unwrap()).is_err());
     assert!(compare(&whole.replace("sound 1", "sound 0")).is_err());
-    for cell in ["rows 2112 010000000", "rows 0 01000000", "rows 0 010000002", "rows", "tail 0 1"] {
+    for cell in
+        ["rows 2112 010000000", "rows 264 01000000", "rows 264 010000002", "rows", "tail 0 1"]
+    {
         assert!(compare(&written(&tables(), cell)).is_err(), "{cell}");
     }
     let mut broken = tables();
     broken.coordinator.due = 2;
-    assert!(compare(&written(&broken, "rows 0 010000000")).is_err());
+    assert!(compare(&written(&broken, "rows 264 010000000")).is_err());
 }
