@@ -1,6 +1,6 @@
 -- Laws of ranks and buckets.
 -- Assumes nothing.
-use Prim.Native.Nat.{ℕ, suc, _+_, _-_, _^_, _%_, _≤_, _<_}
+use Prim.Native.Nat.{ℕ, suc, _+_, _-_, _*_, _/_, _^_, _%_, _≤_, _<_}
 use mathlib.Core.Path.{_≡_, refl, sym, ap, _∙_}
 use mathlib.Core.Bool.{Bool, true, false, not, true≢false}
 use native.Mathlib.Omega.{arith}
@@ -48,15 +48,24 @@ unfolding bucketOf
 bucket-key z n f = ap (λ (k : ℤ). patternOf k % n) (key-rank z f)
 
 -- the rank's top bit is turned
-pub bucket-low : (r n : ℕ) → r < 9223372036854775808 → (r + 9223372036854775808) % n ≡ bucketOf r n
-unfolding bucketOf
-bucket-low r n h =
+pub pattern-low : (r : ℕ) → r < 9223372036854775808 → r + 9223372036854775808 ≡ patternOf (keyOf r)
+pattern-low r h =
     let e : r + 9223372036854775808 ≡ 18446744073709551616 - suc (9223372036854775807 - r) = omega arith in
     rw (lt-ltb r 9223372036854775808 h, e)
 
-pub bucket-high : (r n : ℕ) → 9223372036854775808 ≤ r → (r - 9223372036854775808) % n ≡ bucketOf r n
+pub pattern-high : (r : ℕ) → 9223372036854775808 ≤ r → r - 9223372036854775808 ≡ patternOf (keyOf r)
+pattern-high r h = rw (le-ltb r 9223372036854775808 h)
+
+-- the bucket by the pattern
+pub bucket-pattern : (p r n : ℕ) → p ≡ patternOf (keyOf r) → p % n ≡ bucketOf r n
 unfolding bucketOf
-bucket-high r n h = rw (le-ltb r 9223372036854775808 h)
+bucket-pattern p r n e = ap (λ k. k % n) e
+
+-- a remainder of a number by its halves
+pub by-halves : (p m d r : ℕ) → r ≡ (p / 4294967296 * 4294967296 + p % 4294967296) % d → m ≡ d → r ≡ p % m
+by-halves p m d r e s =
+    let h : p / 4294967296 * 4294967296 + p % 4294967296 ≡ p = omega arith in
+    e ∙ ap (λ k. k % d) h ∙ sym (ap (λ k. p % k) s)
 
 -- LAW: it is one of the buckets
 pub bucket-lt : (r n : ℕ) → 0 < n → bucketOf r n < n
