@@ -38,13 +38,19 @@ pub fn no_ticket() -> Ticket
     }
 }
 
-// The levels of a capacity; 0 where the table has no such capacity.
+// The levels of a capacity; 0 where the table has no such capacity. It is written as a match since the constant table of sizes would be built on the stack at each call.
 pub fn levels_of(capacity: u32) -> u32
     ensures { λ r. ⌜ r ≡ levelsOf capacity ⌝ }
 {
-    match sizes::size_of(capacity) {
-        sizes::Sized::Of(s) => s.levels,
-        sizes::Sized::Nothing => 0,
+    match capacity {
+        4096 => 12,
+        2048 => 11,
+        1024 => 10,
+        512 => 9,
+        256 => 8,
+        128 => 7,
+        64 => 6,
+        _ => 0,
     }
 }
 
