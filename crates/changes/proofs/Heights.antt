@@ -1,44 +1,43 @@
--- The height that a coin gives, as the code comes to it: one bit after another.
+-- The height that a coin gives, as the code comes to it: by the trailing zeros of the coin's complement.
 -- Assumes nothing.
-use mathlib.Core.Path.{_≡_, refl}
-use mathlib.Core.Logic.{_≢_, by-cases}
-use Prim.Native.Nat.{ℕ, suc, _+_, _-_, _/_, _%_, _≤_, _<_, min}
+use mathlib.Core.Path.{_≡_, refl, sym, ap, _∙_}
+use mathlib.Core.Logic.{by-cases}
+use Prim.Native.Nat.{ℕ, zero, suc, _+_, _-_, _/_, _%_, _^_, _≤_, _<_, min}
 use native.Mathlib.Omega.{arith}
-use native.Mathlib.Decide.{decLe}
-use native.Mathlib.Nat.{min-eq-left, min-eq-right}
+use native.Mathlib.Decide.{decLe, ℕ-discrete}
+use native.Mathlib.Nat.{min-eq-left, min-eq-right, pow-suc}
+use lib.Count.{trailingZeros}
 use borrow.Author.Tests.{eq-eqb, ne-eqb}
 use Rattle.model.specs.Model.{trailingOnes, heightOf}
 
--- the height, where the bits so far were ones and these are left
-unfoldable pub heightFrom : ℕ → ℕ → ℕ → ℕ
-heightFrom levels height left = min levels (height + trailingOnes (65 - height) left)
+-- LAW: the trailing ones of a number of k digits are the trailing zeros of its complement
+pub complement : (k c : ℕ) → c < 2 ^ k → trailingZeros k (2 ^ k - 1 - c) ≡ trailingOnes k c
+unfolding trailingZeros
+complement zero c h = refl
+complement (suc k) c h = go (ℕ-discrete (c % 2) 1) (complement k (c / 2) (omega (arith, pow-suc 2 k)))
+  where
+    half : (2 ^ suc k - 1 - c) / 2 ≡ 2 ^ k - 1 - c / 2
+    half = omega (arith, pow-suc 2 k, h)
 
-pub height-begins : (levels coin : ℕ) → heightFrom levels 1 coin ≡ heightOf levels coin
-unfolding heightFrom
-height-begins levels coin = refl
+    low : (2 ^ suc k - 1 - c) % 2 ≡ 1 - c % 2
+    low = omega (arith, pow-suc 2 k, h)
 
-module _ (levels height left : ℕ) where
-  -- LAW: a zero bit ends it
-  pub height-stops : height ≤ levels → height < 65 → left % 2 ≡ 0 → heightFrom levels height left ≡ height
-  unfolding heightFrom
-  height-stops h s e =
-      let d : 65 - height ≡ suc (64 - height) = omega arith in
-      let z : height + 0 ≡ height = omega arith in
-      rw (d, ne-eqb (left % 2) 1 (λ q. omega arith), z) (min-eq-right h)
+    go : Dec (c % 2 ≡ 1) → trailingZeros k (2 ^ k - 1 - c / 2) ≡ trailingOnes k (c / 2) → trailingZeros (suc k) (2 ^ suc k - 1 - c) ≡ trailingOnes (suc k) c
+    go (yes e) ih = let z : 1 - c % 2 ≡ 0 = omega arith in rw (half, low, z, eq-eqb (c % 2) 1 e) (ap suc ih)
+    go (no e) ih = let z : 1 - c % 2 ≡ 1 = omega arith in rw (half, low, z, ne-eqb (c % 2) 1 e)
 
-  -- LAW: a one bit adds a level
-  pub height-goes : height < 65 → left % 2 ≢ 0 → heightFrom levels (height + 1) (left / 2) ≡ heightFrom levels height left
-  unfolding heightFrom
-  height-goes s e =
-      let d : 65 - height ≡ suc (64 - height) = omega arith in
-      let k : 65 - (height + 1) ≡ 64 - height = omega arith in
-      let z : height + 1 + trailingOnes (64 - height) (left / 2) ≡ height + suc (trailingOnes (64 - height) (left / 2)) = omega arith in
-      rw (d, k, eq-eqb (left % 2) 1 (omega arith), z)
+-- LAW: so the height is one more than their count, or the levels where these are fewer
+pub height-counted : (levels coin ones : ℕ) → ones ≡ trailingZeros 64 (18446744073709551615 - coin) → coin < 2 ^ 64 → ones < levels → ones + 1 ≡ heightOf levels coin
+height-counted levels coin ones e f h = go 64 (e ∙ complement 64 coin f)
+  where
+    go : (k : ℕ) → ones ≡ trailingOnes k coin → ones + 1 ≡ min levels (1 + trailingOnes k coin)
+    go k q = rw (sym q) (let z : ones + 1 ≡ 1 + ones = omega arith in z ∙ sym (min-eq-right (omega arith)))
 
-  -- LAW: and so does the last level
-  pub height-ends : levels ≤ height → heightFrom levels height left ≡ levels
-  unfolding heightFrom
-  height-ends h = min-eq-left (omega arith)
+pub height-full : (levels coin ones : ℕ) → ones ≡ trailingZeros 64 (18446744073709551615 - coin) → coin < 2 ^ 64 → levels ≤ ones → levels ≡ heightOf levels coin
+height-full levels coin ones e f h = go 64 (e ∙ complement 64 coin f)
+  where
+    go : (k : ℕ) → ones ≡ trailingOnes k coin → levels ≡ min levels (1 + trailingOnes k coin)
+    go k q = rw (sym q) (sym (min-eq-left (omega arith)))
 
 -- LAW: a height is 1 to the levels
 pub height-within : (levels coin : ℕ) → 0 < levels → (0 < heightOf levels coin) × (heightOf levels coin ≤ levels)

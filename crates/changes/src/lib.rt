@@ -21,16 +21,8 @@ pub fn height_of(coin: u64, levels: u32) -> u32
     requires { ⌜ (0 < levels) × (levels ≤ 64) ⌝ }
     ensures { λ r. ⌜ r ≡ heightOf levels coin ⌝ }
 {
-    let mut height: u32 = 1;
-    let mut left = coin;
-    while height < levels {
-        if left % 2 == 0 {
-            return height;
-        }
-        left = left / 2;
-        height += 1;
-    }
-    height
+    let ones = u64::trailing_zeros(!coin);
+    if ones < levels { ones + 1 } else { levels }
 }
 
 // Stores the height and the insertion version of n, and links it between its pair at each level below its height.
