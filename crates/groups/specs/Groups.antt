@@ -43,6 +43,11 @@ pub record Stands (rest : List ℕ) (n len : ℕ) : Type 0 where
   pub inside : len ≤ length rest
   pub written : Written n (take len rest)
 
+-- the first three of the bytes left, each with its high bit set, are worth first
+pub record Led (rest : List ℕ) (first : ℕ) : Type 0 where
+  pub high : All High (take 3 rest)
+  pub value : first ≡ worth (take 3 rest)
+
 -- the bytes left neither begin with a written number nor are the beginning of one
 pub record Neither (rest : List ℕ) : Type 0 where
   pub none : (n len : ℕ) → Stands rest n len → ⊥

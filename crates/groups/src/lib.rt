@@ -1,10 +1,10 @@
 // Numbers of the schedule file: groups of seven bits, lowest group first, and signed numbers as unsigned ones.
 ghost use mathlib.Core.Path.{_≡_};
-ghost use Prim.Native.Nat.{_+_, _≤_};
+ghost use Prim.Native.Nat.{_+_, _-_, _*_, _≤_, _<_};
 ghost use lib.ListN.{length, drop};
 ghost use lib.Seq.{sets};
 ghost use Rattle.lists.specs.Tests.{Says};
-ghost use Rattle.groups.specs.Groups.{Begun, Reads, groupsOf};
+ghost use Rattle.groups.specs.Groups.{High, Begun, Led, Reads, groupsOf};
 ghost use Rattle.groups.specs.Buffers.{Writes};
 ghost use Rattle.groups.specs.Signs.{turned, unturned};
 
@@ -27,8 +27,72 @@ pub fn wide(byte: u8) -> u64
     byte as u64
 }
 
-// Reads the number that begins at this place.
+// Reads the number that begins at this place. Where ten bytes are left, numbers of one to three bytes and of nine or ten are read without a loop.
 pub fn read(bytes: &[u8], at: usize) -> Number
+    ensures { λ r. ⌜ Reads (drop at (now (bytes .entry))) r ⌝ }
+{
+    if bytes.len() < 10 {
+        return read_each(bytes, at);
+    }
+    if bytes.len() - 10 < at {
+        return read_each(bytes, at);
+    }
+    let b0 = wide(bytes[at]);
+    if b0 < 128 {
+        return Number::Of(b0, 1);
+    }
+    let b1 = wide(bytes[at + 1]);
+    if b1 < 128 {
+        if b1 == 0 {
+            return Number::Malformed;
+        }
+        return Number::Of(b0 - 128 + b1 * 128, 2);
+    }
+    let b2 = wide(bytes[at + 2]);
+    if b2 < 128 {
+        if b2 == 0 {
+            return Number::Malformed;
+        }
+        return Number::Of(b0 - 128 + (b1 - 128) * 128 + b2 * 16384, 3);
+    }
+    read_long(bytes, at, b0 - 128 + (b1 - 128) * 128 + (b2 - 128) * 16384)
+}
+
+// Reads on behind three bytes that are worth this: a number of nine or ten bytes at once, with no branch between the two lengths.
+fn read_long(bytes: &[u8], at: usize, first: u64) -> Number
+    requires { ⌜ (at + 10 ≤ length (now bytes)) × Led (drop at (now bytes)) first ⌝ }
+    ensures { λ r. ⌜ Reads (drop at (now (bytes .entry))) r ⌝ }
+{
+    let b3 = wide(bytes[at + 3]);
+    let b4 = wide(bytes[at + 4]);
+    let b5 = wide(bytes[at + 5]);
+    let b6 = wide(bytes[at + 6]);
+    let b7 = wide(bytes[at + 7]);
+    let b8 = wide(bytes[at + 8]);
+    let b9 = wide(bytes[at + 9]);
+    if b3 >= 128 && b4 >= 128 && b5 >= 128 && b6 >= 128 && b7 >= 128 && b8 > 0 {
+        let top = b8 / 128;
+        if top * b9 != top {
+            return Number::Malformed;
+        }
+        let n = join_groups(first, b3, b4, b5, b6, b7, b8);
+        return Number::Of(n, (9 + top) as usize);
+    }
+    read_each(bytes, at)
+}
+
+// The first three groups, the next five and a ninth byte as one number. The ninth byte's high bit is the number's highest.
+fn join_groups(first: u64, b3: u64, b4: u64, b5: u64, b6: u64, b7: u64, b8: u64) -> u64
+    requires { ⌜ (first < 2097152) × High b3 × High b4 × High b5 × High b6 × High b7 × (b8 < 256) ⌝ }
+    ensures { λ r. ⌜ r ≡ first + (b3 - 128) * 2097152 + (b4 - 128) * 268435456 + (b5 - 128) * 34359738368 + (b6 - 128) * 4398046511104 + (b7 - 128) * 562949953421312 + b8 * 72057594037927936 ⌝ }
+{
+    let low = first + (b3 - 128) * 2097152;
+    let high = b4 - 128 + (b5 - 128) * 128 + ((b6 - 128) + (b7 - 128) * 128) * 16384;
+    low + high * 268435456 + b8 * 72057594037927936
+}
+
+// Reads the number that begins at this place, one byte after another.
+fn read_each(bytes: &[u8], at: usize) -> Number
     ensures { λ r. ⌜ Reads (drop at (now (bytes .entry))) r ⌝ }
 {
     let mut sum: u64 = 0;

@@ -1,119 +1,166 @@
--- `groups::read` meets its contract. The loop's invariant: the bytes behind have their high bits set (`Going`). The measure is what is left of the bytes.
+-- `groups::read` meets its contract.
 -- Assumes nothing.
-use Prim.Native.Nat.{_+_, _-_, _*_, _^_, _<_}
-use mathlib.Core.Path.{_≡_, sym, ap, _∙_}
-use mathlib.Core.Logic.{inr, ⊎-elim}
-use native.Mathlib.Omega.{arith}
-use lib.ListN.{length, drop, getD, length-drop}
-use lib.Seq.{getD-drop}
 use borrow.Author.Needs.{needs}
-use borrow.Author.Tests.{ltb-true, ltb-false}
+use Prim.Native.Nat.{_+_}
+use mathlib.Core.Path.{_≡_, refl}
+use mathlib.Core.Logic.{inr}
+use native.Mathlib.Omega.{arith}
+use lib.ListN.{drop, length-drop}
 use Rattle.groups.proofs.Scanning as scan
+use Rattle.groups.proofs.Joining.{Byte, byte-in, met, first-met, led-one, led-two, led-three}
 use Rattle.groups.proofs.read.Statement.{statement}
 use Rattle.groups.proofs.read.Tie as tie
+use Rattle.groups.proofs.read.Reads as reads
+use Rattle.groups.proofs.read.Lts as lts
+use Rattle.groups.proofs.read_each.Reads as read-each-reads
+use Rattle.groups.proofs.read_long.Reads as read-long-reads
+use Rattle.groups.proofs.wide.Reads as wide-reads
 
-abbrev Inv-loop : tie.InvT-loop
-Inv-loop bytes at sum₀ power₀ count₀ place₀ sum power count place = (place ≡ at + count) × scan.Going (drop at bytes) sum power count
+read-each-requires : tie.Need-read-each-requires
+read-each-requires c κs = search needs
 
-abbrev μ-loop : tie.MeasureT-loop
-μ-loop bytes at sum₀ power₀ count₀ place₀ sum power count place = length bytes - place
+returns : tie.Need-returns
+returns c = search needs
 
--- what is known once a byte is read
-at-byte : (c : tie.After-wide Inv-loop μ-loop) → scan.Met (drop (c .before .before .before .before .before .args .at) (c .before .before .before .before .before .args .bytes .now)) (c .before .before .before .loop .sum) (c .before .before .before .loop .power) (c .before .before .before .loop .count) (c .wide .result)
-at-byte c =
-    let at = c .before .before .before .before .before .args .at in
-    let bytes = c .before .before .before .before .before .args .bytes .now in
-    let l = c .before .before .before .loop in
-    record {
-      going = l .inv .1;
-      more = simp length-drop (omega arith);
-      is = getD-drop at bytes (l .count) 0 ∙ ap (λ k. getD bytes k 0) (sym (l .inv .0)) ∙ sym (c .wide .ensures);
-      byte = omega (arith, c .before .shared-slice-known2 .given (l .place), c .wide .ensures);
-    }
+sub-if2 : tie.Need-sub-if2
+sub-if2 c = search needs
 
-loop-holds : tie.Need-loop-holds Inv-loop μ-loop
-loop-holds c = (omega arith, scan.going-none _)
+read-each-requires-2 : tie.Need-read-each-requires-2
+read-each-requires-2 c κs = search needs
 
-shared-slice-read-wide : tie.Need-shared-slice-read-wide Inv-loop μ-loop
+returns-2 : tie.Need-returns-2
+returns-2 c = search needs
+
+shared-slice-read-wide : tie.Need-shared-slice-read-wide
 shared-slice-read-wide c = search needs
 
-wide-requires : tie.Need-wide-requires Inv-loop μ-loop
+wide-requires : tie.Need-wide-requires
 wide-requires c κs = search needs
 
-returns : tie.Need-returns Inv-loop μ-loop
-returns c = scan.going-one (at-byte (c .before .before)) (c .before .if1 .taken) (c .if2 .taken)
+-- the bytes, once they are read
+byte0 : (c : tie.After-wide) → Byte (drop (c .before .before .before .before .before .args .at) (c .before .before .before .before .before .args .bytes .now)) 0 (c .wide .result)
+byte0 c =
+    let at = c .before .before .before .before .before .args .at in
+    byte-in (c .before .before .before .before .before .args .bytes .now) at 0 (at) _ (simp length-drop (omega arith)) (omega arith) (c .wide .ensures) (omega (arith, c .before .shared-slice-known2 .given (at), c .wide .ensures))
 
-returns-2 : tie.Need-returns-2 Inv-loop μ-loop
-returns-2 c = scan.going-zero (at-byte (c .before .before .before)) (c .if3 .taken) (c .before .if2 .left)
+byte1 : (c : tie.After-wide2) → Byte (drop (c .before .before .before .before .before .before .before .before .args .at) (c .before .before .before .before .before .before .before .before .args .bytes .now)) 1 (c .wide2 .result)
+byte1 c =
+    let at = c .before .before .before .before .before .before .before .before .args .at in
+    byte-in (c .before .before .before .before .before .before .before .before .args .bytes .now) at 1 (at + 1) _ (simp length-drop (omega arith)) (refl) (c .wide2 .ensures) (omega (arith, c .before .shared-slice-known3 .given (at + 1), c .wide2 .ensures))
 
-returns-3 : tie.Need-returns-3 Inv-loop μ-loop
-returns-3 c = let h = at-byte (c .before .before .before .before .before) in scan.going-large h (c .before .before .before .before .if1 .taken) (scan.tenth-large h (c .before .if4 .taken) (ltb-true 1 _ (c .if5 .taken)))
+byte2 : (c : tie.After-wide3) → Byte (drop (c .before .before .before .before .before .before .before .before .before .before .before .args .at) (c .before .before .before .before .before .before .before .before .before .before .before .args .bytes .now)) 2 (c .wide3 .result)
+byte2 c =
+    let at = c .before .before .before .before .before .before .before .before .before .before .before .args .at in
+    byte-in (c .before .before .before .before .before .before .before .before .before .before .before .args .bytes .now) at 2 (at + 2) _ (simp length-drop (omega arith)) (refl) (c .wide3 .ensures) (omega (arith, c .before .shared-slice-known4 .given (at + 2), c .wide3 .ensures))
 
--- a last byte fits, whether it is the tenth or comes before it
-small : (c : tie.Joined4 Inv-loop μ-loop) → c .before .before .before .before .before .before .before .loop .sum + c .before .before .before .before .wide .result * c .before .before .before .before .before .before .before .loop .power < 2 ^ 64
-small c = let h = at-byte (c .before .before .before .before) in ⊎-elim (λ t. scan.tenth-fits h (t .0 .taken) (ltb-false 1 _ (t .1 .left))) (λ e. scan.early-fits h (e .left) (c .before .before .before .if1 .taken)) (c .if4 .came)
+returns-3 : tie.Need-returns-3
+returns-3 c = scan.going-one (first-met (byte0 (c .before))) (c .if3 .taken) refl
 
-mul-t15 : tie.Need-mul-t15 Inv-loop μ-loop
-mul-t15 c = record { fits = omega (arith, small c) }
+add-wide : tie.Need-add-wide
+add-wide c = search needs
 
-add-t16 : tie.Need-add-t16 Inv-loop μ-loop
-add-t16 c = record { fits = omega (arith, small c) }
+shared-slice-read-wide-2 : tie.Need-shared-slice-read-wide-2
+shared-slice-read-wide-2 c = search needs
 
-add-t17 : tie.Need-add-t17 Inv-loop μ-loop
-add-t17 c = let g = at-byte (c .before .before .before .before) .going in record { fits = omega (arith, g .few) }
+wide-requires-2 : tie.Need-wide-requires-2
+wide-requires-2 c κs = search needs
 
-returns-4 : tie.Need-returns-4 Inv-loop μ-loop
-returns-4 c = scan.going-of (at-byte (c .before .before .before .before)) (c .before .before .before .if1 .taken) (inr (c .before .if3 .left)) (small c)
+returns-4 : tie.Need-returns-4
+returns-4 c =
+    let x = byte0 (c .before .before .before .before .before) in let y = byte1 (c .before .before) in let g = led-one x (c .before .before .before .before .if3 .left) in
+    scan.going-zero (met g y) (c .if5 .taken) (λ q. omega arith)
 
-returns-5 : tie.Need-returns-5 Inv-loop μ-loop
-returns-5 c = scan.going-long (at-byte (c .before .before)) (c .if6 .taken) (c .before .if1 .left)
+mul-t14 : tie.Need-mul-t14
+mul-t14 c = search needs
 
-mul-sum : tie.Need-mul-sum Inv-loop μ-loop
-mul-sum c = let h = at-byte (c .before .before) in record { fits = omega (arith, scan.next-fits h (c .if6 .left)) }
+add-t15 : tie.Need-add-t15
+add-t15 c = record { fits = omega (arith, byte0 (c .before .before .before .before .before) .byte, byte1 (c .before .before) .byte) }
 
-add-sum : tie.Need-add-sum Inv-loop μ-loop
-add-sum c = let h = at-byte (c .before .before) in record { fits = omega (arith, scan.next-fits h (c .if6 .left), scan.going-below (h .going), scan.going-small (h .going) (c .if6 .left)) }
+returns-5 : tie.Need-returns-5
+returns-5 c =
+    let x = byte0 (c .before .before .before .before .before) in let y = byte1 (c .before .before) in let g = led-one x (c .before .before .before .before .if3 .left) in
+    scan.going-of (met g y) (c .before .if4 .taken) (inr (c .if5 .left)) (omega (arith, x .byte, y .byte))
 
-mul-power : tie.Need-mul-power Inv-loop μ-loop
-mul-power c = let h = at-byte (c .before .before) in record { fits = omega (arith, scan.going-small (h .going) (c .if6 .left)) }
+add-wide-2 : tie.Need-add-wide-2
+add-wide-2 c = search needs
 
-add-count : tie.Need-add-count Inv-loop μ-loop
-add-count c = let h = at-byte (c .before .before) in record { fits = omega (arith, h .going .few) }
+shared-slice-read-wide-3 : tie.Need-shared-slice-read-wide-3
+shared-slice-read-wide-3 c = search needs
 
-add-place : tie.Need-add-place Inv-loop μ-loop
-add-place c = search needs
+wide-requires-3 : tie.Need-wide-requires-3
+wide-requires-3 c κs = search needs
 
-loop-less : tie.Need-loop-less Inv-loop μ-loop
-loop-less c = search needs
+returns-6 : tie.Need-returns-6
+returns-6 c =
+    let x = byte0 (c .before .before .before .before .before .before .before .before) in let y = byte1 (c .before .before .before .before .before) in let z = byte2 (c .before .before) in let g = led-two x y (c .before .before .before .before .before .before .before .if3 .left) (c .before .before .before .before .if4 .left) in
+    scan.going-zero (met g z) (c .if7 .taken) (λ q. omega arith)
 
-loop-again : tie.Need-loop-again Inv-loop μ-loop
-loop-again c = (omega arith, scan.going-next (at-byte (c .before .before)) (c .if6 .left) (c .before .if1 .left))
+mul-t20 : tie.Need-mul-t20
+mul-t20 c = record { fits = omega (arith, byte0 (c .before .before .before .before .before .before .before .before) .byte, byte1 (c .before .before .before .before .before) .byte, byte2 (c .before .before) .byte) }
 
-returns-6 : tie.Need-returns-6 Inv-loop μ-loop
-returns-6 c = scan.going-out (c .before .loop .inv .1) (simp length-drop (omega arith))
+add-t21 : tie.Need-add-t21
+add-t21 c = record { fits = omega (arith, byte0 (c .before .before .before .before .before .before .before .before) .byte, byte1 (c .before .before .before .before .before) .byte, byte2 (c .before .before) .byte) }
+
+mul-t22 : tie.Need-mul-t22
+mul-t22 c = search needs
+
+add-t23 : tie.Need-add-t23
+add-t23 c = record { fits = omega (arith, byte0 (c .before .before .before .before .before .before .before .before) .byte, byte1 (c .before .before .before .before .before) .byte, byte2 (c .before .before) .byte) }
+
+returns-7 : tie.Need-returns-7
+returns-7 c =
+    let x = byte0 (c .before .before .before .before .before .before .before .before) in let y = byte1 (c .before .before .before .before .before) in let z = byte2 (c .before .before) in let g = led-two x y (c .before .before .before .before .before .before .before .if3 .left) (c .before .before .before .before .if4 .left) in
+    scan.going-of (met g z) (c .before .if6 .taken) (inr (c .if7 .left)) (omega (arith, x .byte, y .byte, z .byte))
+
+mul-read-long : tie.Need-mul-read-long
+mul-read-long c = record { fits = omega (arith, byte0 (c .before .before .before .before .before .before .before) .byte, byte1 (c .before .before .before .before) .byte, byte2 (c .before) .byte) }
+
+add-read-long : tie.Need-add-read-long
+add-read-long c = record { fits = omega (arith, byte0 (c .before .before .before .before .before .before .before) .byte, byte1 (c .before .before .before .before) .byte, byte2 (c .before) .byte) }
+
+mul-read-long-2 : tie.Need-mul-read-long-2
+mul-read-long-2 c = record { fits = omega (arith, byte0 (c .before .before .before .before .before .before .before) .byte, byte1 (c .before .before .before .before) .byte, byte2 (c .before) .byte) }
+
+add-read-long-2 : tie.Need-add-read-long-2
+add-read-long-2 c = record { fits = omega (arith, byte0 (c .before .before .before .before .before .before .before) .byte, byte1 (c .before .before .before .before) .byte, byte2 (c .before) .byte) }
+
+read-long-requires : tie.Need-read-long-requires
+read-long-requires c κs = (omega arith, led-three (byte0 (c .before .before .before .before .before .before .before)) (byte1 (c .before .before .before .before)) (byte2 (c .before)) (c .before .before .before .before .before .before .if3 .left) (c .before .before .before .if4 .left) (c .if6 .left))
+
+returns-8 : tie.Need-returns-8
+returns-8 c = search needs
 
 pub read-spec : {M : Type 1} → statement M
 read-spec =
     tie.close
     (tie.spec
-    Inv-loop
-    μ-loop
-    loop-holds
+    read-each-requires
+    returns
+    sub-if2
+    read-each-requires-2
+    returns-2
     shared-slice-read-wide
     wide-requires
-    returns
-    returns-2
     returns-3
-    mul-t15
-    add-t16
-    add-t17
+    add-wide
+    shared-slice-read-wide-2
+    wide-requires-2
     returns-4
+    mul-t14
+    add-t15
     returns-5
-    mul-sum
-    add-sum
-    mul-power
-    add-count
-    add-place
-    loop-less
-    loop-again
-    returns-6)
+    add-wide-2
+    shared-slice-read-wide-3
+    wide-requires-3
+    returns-6
+    mul-t20
+    add-t21
+    mul-t22
+    add-t23
+    returns-7
+    mul-read-long
+    add-read-long
+    mul-read-long-2
+    add-read-long-2
+    read-long-requires
+    returns-8)
