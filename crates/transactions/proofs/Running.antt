@@ -6,14 +6,15 @@ use mathlib.Core.Bool.{Bool, true, false, true≢false}
 use mathlib.Core.List.{List, [], _∷_, _++_}
 use mathlib.Core.Option.{Option, some}
 use native.Mathlib.Omega.{arith}
-use lib.ListN.{length, getD, set, take, drop, getElem?, replicate, length-set, length-replicate}
+use lib.ListN.{length, set, take, drop, getElem?, replicate, length-set, length-replicate}
 use lib.Seq.{length-take-le, take-suc-set, drop-drop}
 use native.Mathlib.Numerals.{add-one}
 use Rattle.groups.specs.Groups.{Begun, Stands, Neither}
 use Rattle.groups.proofs.Standing.{stands-same, stands-begun}
 use Rattle.transactions.specs.Sequences.{listed, Reached, Stops, Waits}
 use Rattle.transactions.specs.Readings.{StopsAt}
-use Rattle.transactions.specs.Inner.{WholeNumbers}
+use Rattle.transactions.specs.Inner.{WholeNumbers, inOrder}
+use Rattle.transactions.specs.declared.Three.{Three}
 use Rattle.transactions.proofs.Sequencing.{reached-none, reached-more}
 
 -- the numbers before the place are reached, and one more is due there
@@ -124,17 +125,14 @@ module _ {count most : ℕ} {bytes found : List ℕ} {at place i : ℕ} (f : Fou
       reached = rw (add-one, take-suc-set found i n (omega (arith, f .room))) (due-well found-due s l);
     }
 
-  -- all are found: three places, of which the first ones count
-  pub found-whole : length found ≡ 3 → count ≤ i → WholeNumbers (replicate count most) (drop at bytes) at (record { first = getD found 0 0; second = getD found 1 0; third = getD found 2 0 }) place
-  found-whole l h = record {
-    offset = f .offset;
-    is = f .is;
-    reached = let e : i ≡ length (replicate count most) = omega (arith, f .few, length-replicate count most) in rw (three found l) (subst (λ k. Reached (listed (replicate count most)) (drop at bytes) (take k found) (f .offset)) e (f .reached));
-  }
-    where
-      three : (l : List ℕ) → length l ≡ 3 → getD l 0 0 ∷ getD l 1 0 ∷ getD l 2 0 ∷ [] ≡ l
-      three [] e = absurd (omega arith)
-      three (a ∷ []) e = absurd (omega arith)
-      three (a ∷ b ∷ []) e = absurd (omega arith)
-      three (a ∷ b ∷ c ∷ []) e = refl
-      three (a ∷ b ∷ c ∷ d ∷ l) e = absurd (omega arith)
+-- and a list that has it in its place
+pub found-with : {count most : ℕ} {bytes found found′ : List ℕ} {at place i n len : ℕ} → Found count most bytes found at place i → i < count → Stands (drop place bytes) n len → n ≤ most → found′ ≡ set found i n → Found count most bytes found′ at (place + len) (i + 1)
+found-with {count} {most} {bytes} {found} {found′} {at} {place} {i} {n} {len} f more s l e = subst (λ (x : List ℕ). Found count most bytes x at (place + len) (i + 1)) (sym e) (found-next f more s l)
+
+-- all are found: of the three the first ones count
+pub found-whole : {count most : ℕ} {bytes : List ℕ} {three : Three} {at place i : ℕ} → Found count most bytes (inOrder three) at place i → count ≤ i → WholeNumbers (replicate count most) (drop at bytes) at three place
+found-whole {count} {most} {bytes} {three} {at} {place} {i} f h = record {
+  offset = f .offset;
+  is = f .is;
+  reached = let e : i ≡ length (replicate count most) = omega (arith, f .few, length-replicate count most) in subst (λ k. Reached (listed (replicate count most)) (drop at bytes) (take k (inOrder three)) (f .offset)) e (f .reached);
+}

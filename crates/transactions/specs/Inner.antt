@@ -13,6 +13,10 @@ use Rattle.transactions.specs.Sequences.{Reached, Waits, listed}
 use Rattle.transactions.specs.Calls.{operandsOf, callLimit}
 use Rattle.transactions.specs.Readings.{StopsAt}
 
+-- the three as a list
+abbrev pub inOrder : Three → List ℕ
+inOrder t = t .first ∷ t .second ∷ t .third ∷ []
+
 -- all numbers that a list of limits asks for, the first of three, which end at the place
 pub record WholeNumbers (limits rest : List ℕ) (at : ℕ) (three : Three) (place : ℕ) : Type 0 where
   pub offset : ℕ

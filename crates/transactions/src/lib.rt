@@ -1,14 +1,14 @@
 // The schedule file: its header and its calls, read from bytes and written to a lent buffer.
 ghost use mathlib.Core.Path.{_≡_};
 ghost use mathlib.Core.List.{[], _∷_};
-ghost use Prim.Native.Nat.{_≤_};
-ghost use lib.ListN.{length, take, drop, replicate};
+ghost use Prim.Native.Nat.{_≤_, _<_};
+ghost use lib.ListN.{length, take, drop, set, replicate};
 ghost use lib.Seq.{sets};
 ghost use Rattle.groups.specs.Buffers.{Writes};
 ghost use Rattle.transactions.specs.Sequences.{Within, bytesOf};
 ghost use Rattle.transactions.specs.Calls.{numbersOf, headerOf, operandsOf, callLimit, small};
 ghost use Rattle.transactions.specs.Readings.{HeaderRead, CallRead};
-ghost use Rattle.transactions.specs.Inner.{OperandsFor, CodedAs, NumbersRead, CodeRead, NoCode};
+ghost use Rattle.transactions.specs.Inner.{OperandsFor, CodedAs, NumbersRead, CodeRead, NoCode, inOrder};
 use groups::Number;
 use groups::Wrote;
 use groups::length_of;
@@ -86,12 +86,42 @@ struct Coded {
     pub of: [u64; 4],
 }
 
+// The three with n in the place i. Three fields, and not an array, since they then stay in registers.
+fn with_number(three: Three, i: usize, n: u64) -> Three
+    requires { ⌜ i < 3 ⌝ }
+    ensures { λ r. ⌜ inOrder r ≡ set (inOrder three) i n ⌝ }
+{
+    if i == 0 {
+        return Three {
+            first: n,
+            second: three.second,
+            third: three.third,
+        };
+    }
+    if i == 1 {
+        return Three {
+            first: three.first,
+            second: n,
+            third: three.third,
+        };
+    }
+    Three {
+        first: three.first,
+        second: three.second,
+        third: n,
+    }
+}
+
 // Reads numbers one after another, each no greater than the same limit.
 fn read_numbers(bytes: &[u8], at: usize, more: bool, count: usize, most: u64) -> Numbers
     requires { ⌜ count ≤ 3 ⌝ }
     ensures { λ r. ⌜ NumbersRead (replicate count most) (drop at (now (bytes .entry))) at more r ⌝ }
 {
-    let mut found = [0u64; 3];
+    let mut found = Three {
+        first: 0,
+        second: 0,
+        third: 0,
+    };
     let mut place = at;
     let mut i = 0;
     while i < count {
@@ -101,7 +131,7 @@ fn read_numbers(bytes: &[u8], at: usize, more: bool, count: usize, most: u64) ->
                 if most < n {
                     return Numbers::Stop(place);
                 }
-                found[i] = n;
+                found = with_number(found, i, n);
                 place += len;
                 i += 1;
             }
@@ -116,14 +146,7 @@ fn read_numbers(bytes: &[u8], at: usize, more: bool, count: usize, most: u64) ->
             }
         }
     }
-    Numbers::Whole(
-        Three {
-            first: found[0],
-            second: found[1],
-            third: found[2],
-        },
-        place,
-    )
+    Numbers::Whole(found, place)
 }
 
 // Of the code, of which there are fourteen.

@@ -1,25 +1,26 @@
 -- `transactions::read_numbers` meets its contract. The invariant: the first numbers are found (`Found`). The measure is how many are left.
 -- Assumes nothing.
 use Prim.Native.Nat.{_-_, _≤_}
-use mathlib.Core.Path.{_≡_, refl, subst}
+use mathlib.Core.Path.{subst}
 use native.Mathlib.Omega.{arith}
-use lib.ListN.{length, drop, replicate, length-set, length-drop}
+use lib.ListN.{drop, replicate, length-drop}
 use borrow.Author.Needs.{needs}
 use Rattle.groups.specs.Groups.{Stands, Reads}
 use Rattle.groups.proofs.Standing.{stands-some}
 use Rattle.transactions.specs.Sequences.{listed}
-use Rattle.transactions.proofs.Running.{Due, due-over, due-cut, due-waits, due-bad, Found, found-none, found-due, found-next, found-whole}
+use Rattle.transactions.specs.Inner.{inOrder}
+use Rattle.transactions.proofs.Running.{Due, due-over, due-cut, due-waits, due-bad, Found, found-none, found-due, found-with, found-whole}
 use Rattle.transactions.proofs.read_numbers.Statement.{statement}
 use Rattle.transactions.proofs.read_numbers.Tie as tie
 
 abbrev Inv-loop : tie.InvT-loop
-Inv-loop bytes at more count most found₀ place₀ i₀ found place i = (count ≤ 3) × (length found ≡ 3) × Found count most bytes found at place i
+Inv-loop bytes at more count most found₀ place₀ i₀ found place i = (count ≤ 3) × Found count most bytes (inOrder found) at place i
 
 abbrev μ-loop : tie.MeasureT-loop
 μ-loop bytes at more count most found₀ place₀ i₀ found place i = count - i
 
 loop-holds : tie.Need-loop-holds Inv-loop μ-loop
-loop-holds c = (c .before .pre, refl, found-none _ _ _ _ _ (c .before .pre))
+loop-holds c = (c .before .pre, found-none _ _ _ _ _ (c .before .pre))
 
 read-requires : tie.Need-read-requires Inv-loop μ-loop
 read-requires c κs = search needs
@@ -29,7 +30,7 @@ enum-known-number c = search needs
 
 -- what is known once a number is read: one more was due
 number-due : (c : tie.After-read Inv-loop μ-loop) → Due (listed (replicate (c .before .before .before .before .args .count) (c .before .before .before .before .args .most))) (c .before .before .before .before .args .bytes .now) (c .before .before .before .before .args .at) (c .before .before .loop .place) (c .before .before .before .before .args .most)
-number-due c = found-due (c .before .before .loop .inv .2) (c .before .loop-test .taken)
+number-due c = found-due (c .before .before .loop .inv .1) (c .before .loop-test .taken)
 
 stands : (c : tie.After-number Inv-loop μ-loop) → Stands (drop (c .before .before .before .before .loop .place) (c .before .before .before .before .before .before .args .bytes .now)) (c .number .given .0 .0) (c .number .given .0 .1 .0)
 stands c = subst (Reads (drop (c .before .before .before .before .loop .place) (c .before .before .before .before .before .before .args .bytes .now))) (c .number .given .1) (c .before .before .read .ensures)
@@ -37,14 +38,11 @@ stands c = subst (Reads (drop (c .before .before .before .before .loop .place) (
 returns : tie.Need-returns Inv-loop μ-loop
 returns c = due-over (number-due (c .before .before .before .before)) _ (stands (c .before .before)) (c .if1 .taken)
 
-mul-found : tie.Need-mul-found Inv-loop μ-loop
-mul-found c = search needs
-
-array-write-found : tie.Need-array-write-found Inv-loop μ-loop
-array-write-found c = search needs
+with-number-requires : tie.Need-with-number-requires Inv-loop μ-loop
+with-number-requires c κs = omega (arith, c .before .before .before .before .before .before .loop .inv .0, c .before .before .before .before .before .loop-test .taken)
 
 add-place : tie.Need-add-place Inv-loop μ-loop
-add-place c = let s = stands (c .before .before) in record { fits = omega (arith, s .inside, stands-some s, length-drop (c .before .before .before .before .before .before .loop .place) (c .before .before .before .before .before .before .before .before .args .bytes .now)) }
+add-place c = let s = stands (c .before .before .before) in record { fits = omega (arith, s .inside, stands-some s, length-drop (c .before .before .before .before .before .before .before .loop .place) (c .before .before .before .before .before .before .before .before .before .args .bytes .now)) }
 
 add-i : tie.Need-add-i Inv-loop μ-loop
 add-i c = search needs
@@ -54,9 +52,8 @@ loop-less c = search needs
 
 loop-again : tie.Need-loop-again Inv-loop μ-loop
 loop-again c = (
-  c .before .before .before .before .before .before .before .before .pre,
-  simp length-set (c .before .before .before .before .before .before .loop .inv .1),
-  found-next (c .before .before .before .before .before .before .loop .inv .2) (c .before .before .before .before .before .loop-test .taken) (stands (c .before .before)) (c .if1 .left),
+  c .before .before .before .before .before .before .before .before .before .pre,
+  found-with (c .before .before .before .before .before .before .before .loop .inv .1) (c .before .before .before .before .before .before .loop-test .taken) (stands (c .before .before .before)) (c .before .if1 .left) (c .with-number .ensures),
 )
 
 enum-told : tie.Need-enum-told Inv-loop μ-loop
@@ -74,17 +71,8 @@ enum-told-2 c = search needs
 returns-4 : tie.Need-returns-4 Inv-loop μ-loop
 returns-4 c = let r = c .before .before in due-bad (number-due r) _ (subst (Reads _) (c .enum-told2 .given .1) (r .read .ensures))
 
-array-read-t20 : tie.Need-array-read-t20 Inv-loop μ-loop
-array-read-t20 c = search needs
-
-array-read-t23 : tie.Need-array-read-t23 Inv-loop μ-loop
-array-read-t23 c = search needs
-
-array-read-t26 : tie.Need-array-read-t26 Inv-loop μ-loop
-array-read-t26 c = search needs
-
 returns-5 : tie.Need-returns-5 Inv-loop μ-loop
-returns-5 c = found-whole (c .before .loop .inv .2) (c .before .loop .inv .1) (c .loop-test .left)
+returns-5 c = found-whole (c .before .loop .inv .1) (c .loop-test .left)
 
 pub read-numbers-spec : {M : Type 1} → statement M
 read-numbers-spec =
@@ -96,8 +84,7 @@ read-numbers-spec =
     read-requires
     enum-known-number
     returns
-    mul-found
-    array-write-found
+    with-number-requires
     add-place
     add-i
     loop-less
@@ -107,7 +94,4 @@ read-numbers-spec =
     returns-3
     enum-told-2
     returns-4
-    array-read-t20
-    array-read-t23
-    array-read-t26
     returns-5)
