@@ -218,6 +218,16 @@ fn written(tables: &Tables, cell: &str) -> String {
 }
 
 #[test]
+fn every_cell_has_an_address_of_its_own() {
+    let rows = 66;
+    let mut places: Vec<usize> = (0..rows)
+        .flat_map(|row| (0..32).map(move |column| second::tables::address(rows, row, column)))
+        .collect();
+    places.sort_unstable();
+    assert!(places.into_iter().eq(0..rows * 32));
+}
+
+#[test]
 fn verdicts_are_compared_one_by_one() {
     // The height of node 0, at 4 * 66, which is 1 and on one level only.
     let right = compare(&written(&tables(), "rows 264 010000000")).unwrap();
