@@ -1,4 +1,5 @@
-//! Compiles the shims over std::map and LMDB with the machine's own compilers.
+//! Compiles the shims over std::map and LMDB with the machine's own compilers; where LMDB is not
+//! installed, that of std::map alone.
 
 use std::env;
 use std::path::{Path, PathBuf};
@@ -6,20 +7,38 @@ use std::process::Command;
 
 fn main() {
     let out = PathBuf::from(env::var_os("OUT_DIR").expect("cargo names a folder"));
-    let std_map = compile(&out, "c++", &["-std=c++17"], "std_map.cpp");
-    let lmdb = compile(&out, "cc", &["-std=c11"], "lmdb.c");
-    let status = Command::new("ar")
-        .arg("crs")
-        .arg(out.join("libshims.a"))
-        .args([std_map, lmdb])
-        .status()
-        .expect("ar runs");
+    let mut shims = vec![compile(&out, "c++", &["-std=c++17"], "std_map.cpp")];
+    println!("cargo:rustc-check-cfg=cfg(lmdb)");
+    let lmdb = has_lmdb(&out);
+    if lmdb {
+        shims.push(compile(&out, "cc", &["-std=c11"], "lmdb.c"));
+        println!("cargo:rustc-cfg=lmdb");
+    }
+    let archive = out.join("libshims.a");
+    let _ = std::fs::remove_file(&archive);
+    let status = Command::new("ar").arg("crs").arg(archive).args(shims).status().expect("ar runs");
     assert!(status.success(), "the shims could not be put together");
     println!("cargo:rerun-if-changed=shims");
+    println!("cargo:rerun-if-changed=/usr/include/lmdb.h");
     println!("cargo:rustc-link-search=native={}", out.display());
     println!("cargo:rustc-link-lib=static=shims");
     println!("cargo:rustc-link-lib=stdc++");
-    println!("cargo:rustc-link-lib=lmdb");
+    if lmdb {
+        println!("cargo:rustc-link-lib=lmdb");
+    }
+}
+
+/// Whether a program over LMDB compiles and links.
+fn has_lmdb(out: &Path) -> bool {
+    let source = out.join("try.c");
+    std::fs::write(
+        &source,
+        "#include <lmdb.h>\nint main(void) { return mdb_version(0, 0, 0) == 0; }\n",
+    )
+    .expect("the folder can be written");
+    let tried =
+        Command::new("cc").arg(&source).arg("-llmdb").arg("-o").arg(out.join("try")).output();
+    tried.is_ok_and(|tried| tried.status.success())
 }
 
 fn compile(out: &Path, compiler: &str, words: &[&str], source: &str) -> PathBuf {

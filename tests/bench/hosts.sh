@@ -1,8 +1,9 @@
 #!/usr/bin/env bash
 # The benchmark of docs/BENCHMARK.md: times of Lopresnik's batch and single entry points against a plain
-# skip hash, BTreeMap, HashMap, std::map and LMDB, as tables of one run, then counts of instructions by
-# callgrind. Installs LMDB and valgrind by apt-get where they are missing. LOPRESNIK_ARCHIVE names a
-# folder with a ready archive. It takes two and a half minutes of processor time.
+# skip hash, BTreeMap, HashMap, std::map and LMDB, and of the soundness test against a plain pass, as
+# tables of one run; then counts of instructions by callgrind. Installs LMDB and valgrind by apt-get
+# where they are missing; where LMDB cannot be had, the tables say so. LOPRESNIK_ARCHIVE names a folder
+# with a ready archive. It takes two and a half minutes of processor time.
 set -eu
 cd "$(dirname "$0")/../.."
 
@@ -10,7 +11,7 @@ export CARGO_TARGET_DIR="$PWD/target/hosts"
 bench="$CARGO_TARGET_DIR/release/bench"
 
 need() {
-  [ -e "$1" ] || command -v "$1" >/dev/null || apt-get install -y --no-install-recommends "$2" >/dev/null
+  [ -e "$1" ] || command -v "$1" >/dev/null || apt-get install -y --no-install-recommends "$2" >/dev/null 2>&1
 }
 
 # Instructions an operation: what two runs more take, which leaves out all that is done besides.
@@ -26,7 +27,7 @@ instructions() {
   echo $(((many - few) / (2 * operations)))
 }
 
-need /usr/include/lmdb.h liblmdb-dev
+need /usr/include/lmdb.h liblmdb-dev || true
 need valgrind valgrind
 if [ -z "${LOPRESNIK_ARCHIVE-}" ]; then
   hosts/archive.sh lopresnik >/dev/null

@@ -93,7 +93,7 @@ impl<'work> Batch<'work> {
 }
 
 /// Lopresnik's map with what the work begins with.
-fn filled(work: &Work, calls: &Calls) -> Map {
+pub fn filled(work: &Work, calls: &Calls) -> Map {
     let mut map = Map::new(work.capacity as u32).expect("a capacity of the table");
     map.run_list(&calls.fill).expect("the tables are sound");
     map

@@ -2,8 +2,11 @@
 
 mod clock;
 mod lists;
+#[cfg(lmdb)]
+mod lmdb;
 mod shims;
 mod skip_hash;
+mod soundness;
 mod subjects;
 mod work;
 
@@ -11,8 +14,8 @@ use std::ops::Range;
 use std::time::Duration;
 
 use lists::{Batch, Calls, PlainBatch, Single};
-use shims::{Lmdb, StdMap};
-use subjects::{Directly, Hash, Out, Plain, Subject, Tree};
+use shims::StdMap;
+use subjects::{Directly, Out, Plain, QuickHash, SlowHash, Subject, Tree};
 use work::{Mix, Work, MIXES};
 
 /// So many runs of each subject.
@@ -38,20 +41,19 @@ fn main() {
     let words: Vec<String> = std::env::args().skip(1).collect();
     let words: Vec<&str> = words.iter().map(String::as_str).collect();
     match words[..] {
-        [] => print_all(),
-        ["mixes"] => print_mixes(false),
-        ["long"] => print_long_ranges(),
+        [] => {
+            print_workloads();
+            print_growth();
+            print_lengths();
+            print_soundness();
+        }
+        ["short"] => {
+            print_workloads();
+            print_soundness();
+        }
         ["count", subject, mix, runs] => count(subject, mix, runs.parse().expect("a number")),
-        _ => panic!("usage: bench [mixes | long | count SUBJECT WORKLOAD RUNS]"),
+        _ => panic!("usage: bench [short | count SUBJECT WORKLOAD RUNS]"),
     }
-}
-
-fn print_all() {
-    print_mixes(false);
-    print_mixes(true);
-    print_long_ranges();
-    print_growth();
-    print_lengths();
 }
 
 /// Nanoseconds an operation of each subject. A first run compares every answer and pair with those of
@@ -116,15 +118,19 @@ fn subjects_of<'work>(
         Box::new(Directly::<Plain>::new("plain direct", work)),
         Box::new(Directly::<Tree>::new("BTreeMap", work)),
         Box::new(StdMap::new(work)),
-        Box::new(Lmdb::new(work)),
     ];
+    #[cfg(lmdb)]
+    subjects.push(Box::new(lmdb::Lmdb::new(work)));
     if !has_ranges {
-        subjects.push(Box::new(Directly::<Hash>::new("HashMap", work)));
+        subjects.push(Box::new(Directly::<SlowHash>::new("HashMap", work)));
+        subjects.push(Box::new(Directly::<QuickHash>::new(QUICK_HASH, work)));
     }
     subjects
 }
 
-const NAMES: [&str; 9] = [
+const QUICK_HASH: &str = "HashMap, quick hash";
+
+const NAMES: [&str; 10] = [
     "batch",
     "single",
     "batch, written",
@@ -134,21 +140,34 @@ const NAMES: [&str; 9] = [
     "std::map",
     "LMDB",
     "HashMap",
+    QUICK_HASH,
+];
+
+/// Whose time is divided by whose in the summary.
+const RATIOS: [(&str, &str); 8] = [
+    ("BTreeMap", "batch"),
+    ("BTreeMap", "batch, written"),
+    ("std::map", "batch"),
+    ("std::map", "batch, written"),
+    ("LMDB", "batch"),
+    ("HashMap", "batch"),
+    (QUICK_HASH, "batch"),
+    ("plain batch", "batch"),
 ];
 
 /// One line of a table: the workload, and what was measured by name.
-struct Line {
+struct Line<'names> {
     workload: String,
-    measured: Vec<(&'static str, f64)>,
+    measured: Vec<(&'names str, f64)>,
 }
 
-impl Line {
+impl Line<'_> {
     fn of(&self, name: &str) -> Option<f64> {
         self.measured.iter().find(|(measured, _)| *measured == name).map(|&(_, time)| time)
     }
 }
 
-fn measure_mix(mix: Mix, scattered: bool) -> Line {
+fn measure_mix(mix: Mix, scattered: bool) -> Line<'static> {
     let work = Work::mixed(CAPACITY, scattered, mix, LISTS, LENGTH);
     let calls = Calls::of_work(&work);
     let mut subjects = subjects_of(&work, &calls, mix.ranges > 0);
@@ -164,14 +183,39 @@ fn measure_mix(mix: Mix, scattered: bool) -> Line {
     Line { workload: mix.name.to_string(), measured }
 }
 
-fn print_mixes(scattered: bool) {
-    let keys = if scattered { "64-bit keys, scattered" } else { "keys 0 to 4095" };
-    let lines: Vec<Line> = MIXES.iter().map(|&mix| measure_mix(mix, scattered)).collect();
-    println!("\n### Workloads, {keys}: nanoseconds an operation\n");
-    print_table(&lines, &NAMES, |line, name| line.of(name), 1);
-    println!("\n### Workloads, {keys}: time of the other divided by that of the batch\n");
-    let ratio = |line: &Line, name: &str| Some(line.of(name)? / line.of("batch")?);
-    print_table(&lines, &NAMES[1..], ratio, 2);
+/// Every workload with both kinds of keys, the long range, and the summary of ratios.
+fn print_workloads() {
+    if !cfg!(lmdb) {
+        println!("\nLMDB is not installed, so its columns are empty.");
+    }
+    let kinds = [("keys 0 to 4095", false), ("64-bit keys, scattered", true)];
+    let lines = kinds.map(|(keys, scattered)| {
+        let lines: Vec<Line> = MIXES.iter().map(|&mix| measure_mix(mix, scattered)).collect();
+        println!("\n### Workloads, {keys}: nanoseconds an operation\n");
+        print_table(&lines, &NAMES, |line, name| line.of(name), 1);
+        lines
+    });
+    let long = print_long_ranges();
+    let [mut lines, scattered] = lines;
+    lines.push(long);
+    print_ratios(kinds[0].0, &lines);
+    print_ratios(kinds[1].0, &scattered);
+}
+
+/// A line for each ratio, a column for each workload.
+fn print_ratios<'lines>(keys: &str, measured: &'lines [Line]) {
+    let line = |&(other, ours): &(&str, &str)| {
+        let ratio = |line: &Line| Some(line.of(other)? / line.of(ours)?);
+        let of_workload = |line: &'lines Line| ratio(line).map(|ratio| (&line.workload[..], ratio));
+        Line {
+            workload: format!("{other} / {ours}"),
+            measured: measured.iter().filter_map(of_workload).collect(),
+        }
+    };
+    let lines: Vec<Line> = RATIOS.iter().map(line).collect();
+    let names: Vec<&str> = measured.iter().map(|line| &line.workload[..]).collect();
+    println!("\n### Ratios, {keys}: time of the one divided by that of the other\n");
+    print_table(&lines, &names, |line, name| line.of(name), 2);
 }
 
 fn print_table(
@@ -192,7 +236,7 @@ fn print_table(
 }
 
 /// A long range over everything in steps of 64, with updates between the steps.
-fn print_long_ranges() {
+fn print_long_ranges() -> Line<'static> {
     let work = Work::long_ranges(CAPACITY, 3, RANGES, UPDATES);
     let calls = Calls::of_work(&work);
     let mut subjects = subjects_of(&work, &calls, true);
@@ -200,16 +244,26 @@ fn print_long_ranges() {
     let operations = work.lists[0].len() / RANGES;
     let each = operations as f64 / 1000.0;
     let measured = subjects.iter().map(|s| s.name()).zip(times.iter().map(|time| time * each));
-    let line = Line { workload: "microseconds".into(), measured: measured.collect() };
-    let batch = line.of("batch").expect("the batch is measured");
-    let ratios = line.measured.iter().map(|&(name, time)| (name, time / batch)).collect();
-    let ratios = Line { workload: "divided by the batch".into(), measured: ratios };
+    let line = Line { workload: "long range".into(), measured: measured.collect() };
     println!(
-        "\n### A long range over all keys in steps of 64, {UPDATES} updates before each step ({operations} operations), {RANGES} such ranges a list\n"
+        "\n### A long range over all keys in steps of 64, {UPDATES} updates before each step ({operations} operations), {RANGES} such ranges a list: microseconds a range\n"
     );
     let names =
         ["batch", "batch, written", "plain batch", "plain direct", "BTreeMap", "std::map", "LMDB"];
-    print_table(&[line, ratios], &names, |line, name| line.of(name), 2);
+    print_table(std::slice::from_ref(&line), &names, |line, name| line.of(name), 2);
+    line
+}
+
+/// The soundness test at half of the nodes present and at all.
+fn print_soundness() {
+    let line = |&(workload, present): &(&str, usize)| {
+        let (test, pass) = soundness::measure(CAPACITY, present, RUNS);
+        let measured = vec![("test", test), ("plain pass", pass), ("ratio", test / pass)];
+        Line { workload: workload.into(), measured }
+    };
+    let lines: Vec<Line> = [("half", CAPACITY / 2), ("full", CAPACITY)].iter().map(line).collect();
+    println!("\n### The soundness test against a plain pass over the same cells: microseconds\n");
+    print_table(&lines, &["test", "plain pass", "ratio"], |line, name| line.of(name), 2);
 }
 
 /// Cost an operation by the capacity.

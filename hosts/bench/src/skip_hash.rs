@@ -1,7 +1,13 @@
 //! A plain skip hash, proved nowhere: what a careful programmer would write in Rust from document 01.
-//! Nodes are numbers into arrays; a row has the fields and links of one node. It is the yardstick.
+//! Nodes are numbers into arrays, laid out as Lopresnik's rows are: the lowest links after and the places
+//! by themselves, short rows with the other fields and the lower links, the upper links apart. It is the
+//! yardstick.
 
 pub const LEVELS: usize = 12;
+
+/// Levels from 1 on whose links stand in a node's row, and levels above.
+const LOWER: usize = 5;
+const UPPER: usize = LEVELS - 1 - LOWER;
 const AFTER: usize = 0;
 const BEFORE: usize = 1;
 
@@ -18,16 +24,17 @@ enum Place {
     Retired,
 }
 
-/// The fields and links of a node, in two cache lines; the fields and the lowest levels share the first.
+/// Fields and lower links of a node, in one cache line.
 #[derive(Clone)]
 #[repr(C, align(64))]
 struct Row {
     height: u32,
     inserted: u32,
     removed: u32,
-    place: Place,
     chain: u32,
-    links: [[u32; 2]; LEVELS],
+    /// On the lowest level.
+    before: u32,
+    links: [[u32; 2]; LOWER],
 }
 
 #[derive(Clone)]
@@ -44,7 +51,11 @@ pub struct SkipHash {
     levels: usize,
     keys: Vec<i64>,
     values: Vec<i64>,
+    /// The node after on the lowest level.
+    lowest: Vec<u32>,
+    places: Vec<Place>,
     rows: Vec<Row>,
+    upper: Vec<[[u32; 2]; UPPER]>,
     buckets: Vec<u32>,
     free: Vec<u32>,
     /// Nodes due, then the lists of the open ranges from the oldest to the latest.
@@ -63,15 +74,18 @@ impl SkipHash {
             height: 0,
             inserted: 0,
             removed: 0,
-            place: Place::Free,
             chain: head,
-            links: [[tail, head]; LEVELS],
+            before: head,
+            links: [[tail, head]; LOWER],
         };
         SkipHash {
             levels: capacity.ilog2() as usize,
             keys: vec![0; capacity],
             values: vec![0; capacity],
+            lowest: vec![tail; capacity + 2],
+            places: vec![Place::Free; capacity],
             rows: vec![row; capacity + 2],
+            upper: vec![[[tail, head]; UPPER]; capacity + 2],
             buckets: vec![head; buckets],
             free: (0..capacity as u32).rev().collect(),
             retired: Default::default(),
@@ -89,8 +103,29 @@ impl SkipHash {
         self.keys.len() as u32 + 1
     }
 
-    fn after(&self, level: usize, node: u32) -> u32 {
-        self.rows[node as usize].links[level][AFTER]
+    /// The nodes after and before.
+    fn links(&self, level: usize, node: u32) -> [u32; 2] {
+        let node = node as usize;
+        match level {
+            0 => [self.lowest[node], self.rows[node].before],
+            1..=LOWER => self.rows[node].links[level - 1],
+            _ => self.upper[node][level - 1 - LOWER],
+        }
+    }
+
+    fn link(&mut self, level: usize, node: u32, direction: usize) -> &mut u32 {
+        let node = node as usize;
+        match (level, direction) {
+            (0, AFTER) => &mut self.lowest[node],
+            (0, _) => &mut self.rows[node].before,
+            (1..=LOWER, _) => &mut self.rows[node].links[level - 1][direction],
+            _ => &mut self.upper[node][level - 1 - LOWER][direction],
+        }
+    }
+
+    fn join(&mut self, level: usize, left: u32, right: u32) {
+        *self.link(level, left, AFTER) = right;
+        *self.link(level, right, BEFORE) = left;
     }
 
     fn bucket(&self, key: i64) -> usize {
@@ -113,21 +148,32 @@ impl SkipHash {
         self.find(key).map(|node| self.values[node as usize])
     }
 
+    /// The last node of a level whose key is at or below, from this node on.
+    #[inline(always)]
+    fn along(&self, key: i64, mut at: u32, after: impl Fn(usize) -> u32) -> u32 {
+        let tail = self.tail();
+        loop {
+            let next = after(at as usize);
+            if next == tail || self.keys[next as usize] > key {
+                return at;
+            }
+            at = next;
+        }
+    }
+
     /// The last node on each level whose key is at or below, or the head.
     fn search(&self, key: i64) -> [u32; LEVELS] {
-        let tail = self.tail();
         let mut before = [0; LEVELS];
         let mut at = self.head();
-        for level in (0..self.levels).rev() {
-            loop {
-                let next = self.after(level, at);
-                if next == tail || self.keys[next as usize] > key {
-                    break;
-                }
-                at = next;
-            }
+        for level in (1 + LOWER..self.levels).rev() {
+            at = self.along(key, at, |node| self.upper[node][level - 1 - LOWER][AFTER]);
             before[level] = at;
         }
+        for level in (1..=LOWER).rev() {
+            at = self.along(key, at, |node| self.rows[node].links[level - 1][AFTER]);
+            before[level] = at;
+        }
+        before[0] = self.along(key, at, |node| self.lowest[node]);
         before
     }
 
@@ -139,10 +185,9 @@ impl SkipHash {
         let height = (1 + coin.trailing_ones() as usize).min(self.levels);
         let before = self.search(key);
         for (level, &left) in before.iter().enumerate().take(height) {
-            let right = self.after(level, left);
-            self.rows[node as usize].links[level] = [right, left];
-            self.rows[left as usize].links[level][AFTER] = node;
-            self.rows[right as usize].links[level][BEFORE] = node;
+            let [right, _] = self.links(level, left);
+            self.join(level, left, node);
+            self.join(level, node, right);
         }
         let bucket = self.bucket(key);
         self.keys[node as usize] = key;
@@ -150,8 +195,8 @@ impl SkipHash {
         let row = &mut self.rows[node as usize];
         row.height = height as u32;
         row.inserted = self.counter;
-        row.place = Place::Present;
         row.chain = self.buckets[bucket];
+        self.places[node as usize] = Place::Present;
         self.buckets[bucket] = node;
         Some(node)
     }
@@ -172,22 +217,21 @@ impl SkipHash {
             None => self.buckets[bucket] = next,
             Some(previous) => self.rows[previous as usize].chain = next,
         }
-        let row = &mut self.rows[node as usize];
-        row.removed = self.counter;
-        row.place = Place::Pending;
+        self.rows[node as usize].removed = self.counter;
+        self.places[node as usize] = Place::Pending;
         Some(node)
     }
 
     /// Whether the pending node is free at once; nothing where it is not pending.
     pub fn hand_over(&mut self, node: u32) -> Option<bool> {
-        if node >= self.head() || self.rows[node as usize].place != Place::Pending {
+        if self.places.get(node as usize) != Some(&Place::Pending) {
             return None;
         }
         match self.tickets.last_mut() {
             Some(latest) if self.rows[node as usize].inserted < latest.version => {
                 latest.held += 1;
                 self.retired.push_back(node);
-                self.rows[node as usize].place = Place::Retired;
+                self.places[node as usize] = Place::Retired;
                 Some(false)
             }
             _ => {
@@ -199,11 +243,10 @@ impl SkipHash {
 
     fn release(&mut self, node: u32) {
         for level in 0..self.rows[node as usize].height as usize {
-            let [right, left] = self.rows[node as usize].links[level];
-            self.rows[left as usize].links[level][AFTER] = right;
-            self.rows[right as usize].links[level][BEFORE] = left;
+            let [right, left] = self.links(level, node);
+            self.join(level, left, right);
         }
-        self.rows[node as usize].place = Place::Free;
+        self.places[node as usize] = Place::Free;
         self.free.push(node);
     }
 
@@ -213,7 +256,7 @@ impl SkipHash {
             return node;
         }
         // The key is not present, so nodes of this key are removed ones: behind them is right too.
-        self.after(0, self.search(key)[0])
+        self.lowest[self.search(key)[0] as usize]
     }
 
     /// The count of pairs within the bounds, put to the front of the buffers; nothing where it is refused.
@@ -231,12 +274,11 @@ impl SkipHash {
         let mut count = 0;
         let mut node = self.first_from(low);
         while node != self.tail() && self.keys[node as usize] <= high {
-            let row = &self.rows[node as usize];
-            if row.place == Place::Present {
+            if self.places[node as usize] == Place::Present {
                 *nodes.get_mut(count)? = node;
                 count += 1;
             }
-            node = row.links[0][AFTER];
+            node = self.lowest[node as usize];
         }
         let (keys, values) = (keys.get_mut(..count)?, values.get_mut(..count)?);
         for ((key, value), &node) in keys.iter_mut().zip(values).zip(&nodes) {
@@ -248,13 +290,14 @@ impl SkipHash {
 
     fn may_rest(&self, version: u32, node: u32) -> bool {
         let row = &self.rows[node as usize];
-        row.inserted < version && (row.place == Place::Present || row.removed >= version)
+        let present = self.places[node as usize] == Place::Present;
+        row.inserted < version && (present || row.removed >= version)
     }
 
     /// This node or the first one behind it that a range of the version may rest on, or the tail.
     fn rest_from(&self, version: u32, mut node: u32) -> u32 {
         while node != self.tail() && !self.may_rest(version, node) {
-            node = self.after(0, node);
+            node = self.lowest[node as usize];
         }
         node
     }
@@ -293,7 +336,7 @@ impl SkipHash {
             keys[count] = self.keys[rest as usize];
             values[count] = self.values[rest as usize];
             count += 1;
-            rest = self.rest_from(version, self.after(0, rest));
+            rest = self.rest_from(version, self.lowest[rest as usize]);
         }
         self.tickets[position].rest = rest;
         Some((count, rest == self.tail() || self.keys[rest as usize] > high))

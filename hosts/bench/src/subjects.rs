@@ -2,6 +2,7 @@
 //! that are called directly; `lists` has those over lists of calls, `shims` those in C and C++.
 
 use std::collections::{BTreeMap, HashMap};
+use std::hash::{BuildHasher, BuildHasherDefault, Hasher, RandomState};
 
 use lopresnik::{ANSWER_CELLS, CALL_PLACES};
 
@@ -157,13 +158,38 @@ impl Direct for Tree {
     }
 }
 
-/// It has no order, so it takes part where there are no ranges.
-#[derive(Clone, Default)]
-pub struct Hash(HashMap<i64, i64>);
+/// A hash map, with the hash function of std or with a quick one. It has no order, so it takes part
+/// where there are no ranges.
+#[derive(Clone)]
+pub struct Hash<Hashing>(HashMap<i64, i64, Hashing>);
 
-impl Direct for Hash {
-    fn empty(_: usize) -> Hash {
-        Hash::default()
+pub type SlowHash = Hash<RandomState>;
+pub type QuickHash = Hash<BuildHasherDefault<Product>>;
+
+/// The key times an odd number, its upper half added to its lower one: quick, and no guard against
+/// keys that are chosen to collide.
+#[derive(Default)]
+pub struct Product(u64);
+
+impl Hasher for Product {
+    fn write(&mut self, _: &[u8]) {
+        unreachable!("only keys are hashed");
+    }
+
+    #[inline(always)]
+    fn write_i64(&mut self, key: i64) {
+        self.0 = (key as u64).wrapping_mul(0x9E37_79B9_7F4A_7C15);
+    }
+
+    #[inline(always)]
+    fn finish(&self) -> u64 {
+        self.0 ^ (self.0 >> 32)
+    }
+}
+
+impl<Hashing: BuildHasher + Clone + Default> Direct for Hash<Hashing> {
+    fn empty(_: usize) -> Hash<Hashing> {
+        Hash(HashMap::default())
     }
 
     #[inline(always)]

@@ -52,15 +52,15 @@ impl Random {
     }
 }
 
-/// The keys that operations choose from, rising: twice the population, which is half the capacity.
-pub fn universe(capacity: usize, scattered: bool) -> Vec<i64> {
+/// The keys that operations choose from, rising: twice as many as are present.
+pub fn universe(count: usize, scattered: bool) -> Vec<i64> {
     let mut random = Random(7);
-    let mut keys: Vec<i64> = (0..capacity)
+    let mut keys: Vec<i64> = (0..count)
         .map(|index| if scattered { random.next() as i64 } else { index as i64 })
         .collect();
     keys.sort_unstable();
     keys.dedup();
-    assert_eq!(keys.len(), capacity);
+    assert_eq!(keys.len(), count);
     keys
 }
 
@@ -100,6 +100,12 @@ impl Work {
         let list = |_| (0..length).map(|_| mixed_op(&keys, mix, &mut random)).collect();
         let lists = (0..lists).map(list).collect();
         Work { capacity, fill, lists }
+    }
+
+    /// A map with so many keys of 64 bits, and nothing done with it.
+    pub fn filled(capacity: usize, present: usize) -> Work {
+        let fill = fill(&universe(2 * present, true), &mut Random(3));
+        Work { capacity, fill, lists: Vec::new() }
     }
 
     /// Lists of so many long ranges, one after another, each over everything, with so many updates
