@@ -188,10 +188,11 @@ filled =
     (map (λ (i : ℕ). (insert (pos i) (pos i) 0, node i)) (count 0 64)
     ++ ((insert (pos 64) (pos 64) 0, refused 5) ∷ (insert (pos 63) (pos 64) 0, refused 3) ∷ [])) (low 64)
 
--- the height is 1 plus the number of trailing one bits, at most the level count
+-- a coin of all ones
 abbrev pub ones : ℕ
 ones = 0xffff_ffff_ffff_ffff
 
+-- the height is 1 plus the number of trailing one bits, at most the level count
 abbrev pub tall : ℕ → ℕ → Situation
 tall capacity levels =
     sized capacity [] ((insert (pos 10) (pos 1) 5, node 0) ∷ (insert (pos 20) (pos 2) 7, node 1) ∷ (insert (pos 30) (pos 3) ones, node 2) ∷ [])
