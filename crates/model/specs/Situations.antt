@@ -130,7 +130,7 @@ outside =
     ∷ (fast (pos 15) (pos 25) 1, ranged (pair 20 2 ∷ []))
     ∷ (fast (pos 20) (pos 20) 1, ranged (pair 20 2 ∷ []))
     ∷ (fast (pos 21) (pos 29) 1, ranged [])
-    ∷ (fast (negsuc 29) (negsuc 9) 1, ranged [])
+    ∷ (fast (negsuc 29) (negsuc 19) 1, ranged [])
     ∷ []) (1 ∷ 1 ∷ 1 ∷ [])
 
 -- the calls that only ask: ceil, floor, succ and pred of a key that is present and of keys that are not
