@@ -25,13 +25,12 @@ use Rattle.model.specs.declared.Ranged.{Ranged}
 use Rattle.model.specs.declared.Stepped.{Stepped}
 use Rattle.tables.specs.declared.Ticket.{Ticket}
 use Rattle.tables.specs.declared.Coordinator.{Coordinator}
-use Rattle.tables.specs.Tables.{Tables, Sound, Met}
+use Rattle.tables.specs.Tables.{Tables, Sound, Met, ticketAt}
 use Rattle.soundness.specs.Tested.{lent}
 use Rattle.ranges.specs.declared.Step as S
 use Rattle.ranges.specs.Walk.{keysOf, valuesOf, walkOf, needed}
 use Rattle.ranges.specs.Fast.{fastAnswer, fastNodes, fastOf, given, RangedBy}
 use Rattle.ranges.specs.Step.{Case, refuse, at, stepping, stepNodes, stepEnd, roomOf, SteppedBy}
-use Rattle.tables.proofs.Ranging.{ticketAt}
 use Rattle.ranges.proofs.WalkLaw.{pairAt, paired-written}
 use Rattle.ranges.proofs.FastLaw.{fast-meets}
 use Rattle.ranges.proofs.StepLaw.{step-meets}

@@ -7,5 +7,4 @@ pub mod Placing
 pub mod Splicing
 pub mod Stitching
 pub mod Testing
-pub mod Climbing
 pub mod Never

@@ -6,8 +6,8 @@ ghost use Rattle.rows.specs.Rows.{links};
 ghost use Rattle.lists.specs.Tests.{Says, Each};
 ghost use Rattle.levels.specs.Levels.{orderOf, Row, Linked};
 ghost use Rattle.levels.specs.Stitch.{joined, stitched, unstitched, cleared, Stitchable, Unstitchable};
-ghost use Rattle.levels.specs.Search.{Rising, searched, Searchable};
-ghost use Rattle.levels.specs.Nearest.{nearestOf, Lowest, Walkable};
+ghost use Rattle.levels.specs.Search.{searched, Searchable};
+ghost use Rattle.levels.specs.Nearest.{nearestOf, Walkable};
 ghost use Rattle.levels.specs.Test.{Follows, Followable, advanced, RightSize};
 
 // The directions.
@@ -204,22 +204,4 @@ pub fn levels_ok(rows: &[u32], cap: u32, levels: u32) -> bool
         left -= 1;
     }
     follows(rows, &last, cap + 1, rows::wide(levels))
-}
-
-// Whether keys never fall along the lowest level.
-pub fn keys_ok(keys: &[u64], rows: &[u32], cap: u32) -> bool
-    requires { ⌜ Lowest (now rows) cap × (length (now keys) ≡ cap) ⌝ }
-    ensures { λ r. ⌜ Says r (Rising (now (keys .entry)) (orderOf (now (rows .entry)) cap)) ⌝ }
-{
-    let mut key: u64 = 0;
-    let mut m = link(rows, 0, AFTER, cap);
-    while m < cap {
-        let at = rows::wide(m);
-        if keys[at] < key {
-            return false;
-        }
-        key = keys[at];
-        m = link(rows, 0, AFTER, m);
-    }
-    true
 }

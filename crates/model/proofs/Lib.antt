@@ -8,6 +8,7 @@ pub mod Effects
 pub mod Applied
 pub mod Reached
 pub mod PlainMap
+pub mod OwnKinds
 pub mod Counts
 pub mod Lists
 pub mod Numbers

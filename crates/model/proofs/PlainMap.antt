@@ -51,7 +51,7 @@ hides (retired r) a = refl
 
 -- ---- the changes
 
-no-some : {A : Type 0} (o : Option A) (a : A) → o ≡ none → o ≡ some a → ⊥
+pub no-some : {A : Type 0} (o : Option A) (a : A) → o ≡ none → o ≡ some a → ⊥
 no-some o a e f = let z : _≡_ {A = Bool} true false = cc in true≢false z
 
 pub puts : (s : State) → WellFormed s → (k v : ℤ) (coin : ℕ) (o : Outcome) → Effect s (insert k v coin) o → refusal s (insert k v coin) ≡ none

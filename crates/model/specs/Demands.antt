@@ -13,7 +13,7 @@ use Rattle.lists.specs.Holds.{All, Pairwise}
 use Rattle.lists.specs.Filters.{empty, filter}
 use Rattle.model.specs.Keys.{eqZ, within}
 use Rattle.model.specs.Plain.{Pair, get, put, del, ceilOf, floorOf, succOf, predOf, between}
-use Rattle.model.specs.Calls.{Call, lookup, insert, remove, handOver, ceil, floor, succ, pred, fast, «open», step, close, sweep, tally, written, code, names, Answer, refused, accepted, pairsIn, number, node, handed, ranged, opened, stepped, madeDue, swept, counts}
+use Rattle.model.specs.Calls.{Call, lookup, insert, remove, handOver, ceil, floor, succ, pred, fast, «open», step, close, sweep, tally, written, code, names, Answer, refused, accepted, pairsIn, number, found, node, handed, nearest, ranged, opened, stepped, madeDue, swept, counts}
 use Rattle.model.specs.Model.{Node, pairOf, isPresent, waits, is, Range, State, plain, dueList, rangeLists, fastLimit, foundIn, nearestIn, heldIn, apply, next, answer, after, history, refusal, stops, inside, pairsOf, setUp}
 use Rattle.model.specs.WellFormed.{WellFormed}
 
@@ -54,6 +54,32 @@ pub record Plainly (s : State) : Type 0 where
   -- the counts that tally and sweep answer
   pub tallies : answer s tally ≡ counts (length (plain s)) (heldIn (s .ranges)) (length (s .free))
   pub sweeps : answer s sweep ≡ swept (min 1 (s .due)) (s .due - 1)
+
+-- ---- Demand 2: each call's answer is one of its own kind
+
+-- an answer of a kind, whatever it carries
+abbrev pub OfKind : {A : Type 0} → (A → Answer) → Answer → Type 0
+OfKind {A} kind a = (x : A) × (a ≡ kind x)
+
+-- the kind of each call's answer, where it is not refused
+abbrev pub Kind : Call → Answer → Type 0
+Kind (lookup k) a = OfKind found a
+Kind (insert k v coin) a = OfKind node a
+Kind (remove k) a = OfKind node a
+Kind (handOver i) a = OfKind (λ (freed : Bool). handed (cond freed 1 0)) a
+Kind (ceil k) a = OfKind nearest a
+Kind (floor k) a = OfKind nearest a
+Kind (succ k) a = OfKind nearest a
+Kind (pred k) a = OfKind nearest a
+Kind (fast l h room) a = OfKind ranged a
+Kind («open» l h) a = OfKind opened a
+Kind (step v room) a = OfKind (λ (x : List Pair × Bool). stepped (x .0) (x .1)) a
+Kind (close v) a = OfKind madeDue a
+Kind sweep a = OfKind (λ (x : ℕ × ℕ). swept (x .0) (x .1)) a
+Kind tally a = OfKind (λ (x : ℕ × ℕ × ℕ). counts (x .0) (x .1) (x .2)) a
+
+abbrev pub Kinds : State → Type 0
+Kinds s = (c : Call) → refusal s c ≡ none → Kind c (answer s c)
 
 -- ---- Demand 2: the counts, by the history of calls
 
@@ -141,6 +167,7 @@ Removes =
 
 pub record Demand2 : Type 0 where
   pub plainly : Always Plainly
+  pub kinds : Always Kinds
   pub counts : Counts
   pub queue : Always OneQueue
   pub removes : Removes

@@ -11,7 +11,7 @@ use borrow.Author.Tests.{lt-ltb, le-ltb}
 use Rattle.model.specs.declared.Closed.the-variants.{Refused, Due}
 use Rattle.tables.specs.declared.Ticket.{Ticket}
 use Rattle.tables.specs.declared.Coordinator.{Coordinator}
-use Rattle.tables.proofs.Ranging.{ticketAt, gained}
+use Rattle.tables.specs.Tables.{ticketAt, gained}
 use Rattle.ranges.specs.declared.Close.{Close}
 use Rattle.ranges.specs.Tickets.{indexOf, slide}
 use Rattle.ranges.specs.Close.{fewer, closeAt, closing}

@@ -19,8 +19,8 @@ use Rattle.model.proofs.PlainMap.{refuses}
 use Rattle.model.proofs.Applied.{close-ends}
 use Rattle.tables.specs.declared.Ticket.{Ticket}
 use Rattle.tables.specs.declared.Coordinator.{Coordinator}
-use Rattle.tables.specs.Tables.{Tables, capacityOf, Lengths, Resting, Sound, Met, view, rangeOf, rangesOf}
-use Rattle.tables.proofs.Ranging.{ticketAt, gained, range-held, range-gained}
+use Rattle.tables.specs.Tables.{Tables, capacityOf, Lengths, Resting, Sound, Met, view, rangeOf, rangesOf, ticketAt, gained}
+use Rattle.tables.proofs.Ranging.{range-held, range-gained}
 use Rattle.tables.proofs.Telling.{sound-whole, sound-sized}
 use Rattle.tables.proofs.Meeting.{met, met-same}
 use Rattle.ranges.specs.declared.Close.{Close}

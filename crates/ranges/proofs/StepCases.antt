@@ -11,7 +11,7 @@ use Rattle.lists.specs.Buffers.{written}
 use Rattle.lists.proofs.Writing.{written-none}
 use Rattle.model.specs.declared.Stepped.the-variants.{Refused, Pairs}
 use Rattle.tables.specs.declared.Ticket.{Ticket}
-use Rattle.tables.proofs.Ranging.{ticketAt}
+use Rattle.tables.specs.Tables.{ticketAt}
 use Rattle.ranges.specs.declared.Walked.{Walked}
 use Rattle.ranges.specs.declared.Step.{Step}
 use Rattle.ranges.specs.Tickets.{indexOf}

@@ -23,8 +23,7 @@ use Rattle.model.specs.Answers.{paired, ofStepped}
 use Rattle.model.proofs.PlainMap.{refuses}
 use Rattle.model.proofs.Applied.{step-moves}
 use Rattle.tables.specs.declared.Ticket.{Ticket}
-use Rattle.tables.specs.Tables.{Tables, capacityOf, Resting, Sound, Met, view, restOf, rangeOf, rangesOf, nodesOf}
-use Rattle.tables.proofs.Ranging.{ticketAt}
+use Rattle.tables.specs.Tables.{Tables, capacityOf, Resting, Sound, Met, view, restOf, rangeOf, rangesOf, nodesOf, ticketAt}
 use Rattle.tables.proofs.Meeting.{met, met-same}
 use Rattle.ranges.specs.declared.Step.{Step}
 use Rattle.ranges.specs.Tickets.{indexOf, withTickets}

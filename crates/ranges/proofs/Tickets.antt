@@ -15,8 +15,7 @@ use Rattle.lists.specs.Holds.{All}
 use Rattle.lists.specs.Filters.{keep, filter, first}
 use Rattle.model.specs.Model as M
 use Rattle.tables.specs.declared.Ticket.{Ticket}
-use Rattle.tables.specs.Tables.{rangeOf, rangesOf}
-use Rattle.tables.proofs.Ranging.{ticketAt}
+use Rattle.tables.specs.Tables.{rangeOf, rangesOf, ticketAt}
 use Rattle.ranges.specs.Tickets.{indexOf, slide}
 
 -- ---- closing up

@@ -8,8 +8,7 @@ use lib.Dec.{ltb}
 use Rattle.model.specs.declared.Closed.the-variants.{Refused, Due}
 use Rattle.tables.specs.declared.Ticket.{Ticket}
 use Rattle.tables.specs.declared.Coordinator.{Coordinator}
-use Rattle.tables.specs.Tables.{Tables}
-use Rattle.tables.proofs.Ranging.{ticketAt, gained}
+use Rattle.tables.specs.Tables.{Tables, ticketAt, gained}
 use Rattle.ranges.specs.declared.Close.{Close}
 use Rattle.ranges.specs.Tickets.{indexOf, slide, withTickets}
 

@@ -10,8 +10,7 @@ use lib.IntN.{ℤ}
 use Rattle.lists.specs.Buffers.{written}
 use Rattle.model.specs.declared.Stepped.the-variants.{Refused, Pairs}
 use Rattle.tables.specs.declared.Ticket.{Ticket}
-use Rattle.tables.specs.Tables.{Tables, node}
-use Rattle.tables.proofs.Ranging.{ticketAt}
+use Rattle.tables.specs.Tables.{Tables, node, ticketAt}
 use Rattle.ranges.specs.declared.Step.{Step}
 use Rattle.ranges.specs.Tickets.{indexOf, withTickets}
 use Rattle.ranges.specs.Walk.{walkOf, handed, finished, restAfter, keysOf, valuesOf, WalkReady}

@@ -14,7 +14,7 @@ use Rattle.model.specs.declared.Handed.the-variants.{Refused, Freed, Held}
 use Rattle.model.specs.declared.Swept.the-variants.{Nodes}
 use Rattle.tables.specs.declared.Ticket.{Ticket}
 use Rattle.tables.specs.declared.Coordinator.{Coordinator}
-use Rattle.tables.proofs.Ranging.{ticketAt}
+use Rattle.tables.specs.Tables.{ticketAt}
 use Rattle.returns.specs.Freeing.{freed}
 use Rattle.returns.specs.HandOver.{handing, handedRows, handedTickets, HandedOver}
 use Rattle.returns.specs.Sweep.{SweptBy, sweptDue, withDue}

@@ -35,9 +35,9 @@ use Rattle.model.specs.Answers.{ofHanded}
 use Rattle.model.specs.declared.Handed.{Handed}
 use Rattle.model.specs.declared.Handed.the-variants.{Refused, Freed, Held}
 use Rattle.tables.specs.declared.Ticket.{Ticket}
-use Rattle.tables.specs.Tables.{Tables, capacityOf, levelsOf, Lengths, Memory, Used, Resting, Sound, Met, view, placeOf, nodeAt, nodesOf, rangeOf, rangesOf}
+use Rattle.tables.specs.Tables.{Tables, capacityOf, levelsOf, Lengths, Memory, Used, Resting, Sound, Met, view, placeOf, nodeAt, nodesOf, rangeOf, rangesOf, ticketAt, gained}
 use Rattle.tables.proofs.Viewing.{shows, shows-none, nodes-moved}
-use Rattle.tables.proofs.Ranging.{ticketAt, gained, range-last, range-hold, range-held}
+use Rattle.tables.proofs.Ranging.{range-last, range-hold, range-held}
 use Rattle.tables.proofs.Telling.{found-or-not, sound-capacity, sound-sized, sound-covered, sound-whole}
 use Rattle.tables.proofs.Meeting.{met, met-same}
 use Rattle.returns.specs.Freeing.{freed}

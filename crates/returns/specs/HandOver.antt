@@ -12,8 +12,7 @@ use Rattle.places.specs.Changes.{retired}
 use Rattle.model.specs.declared.Handed.{Handed}
 use Rattle.model.specs.declared.Handed.the-variants.{Refused, Freed, Held}
 use Rattle.tables.specs.declared.Ticket.{Ticket}
-use Rattle.tables.specs.Tables.{Tables, capacityOf}
-use Rattle.tables.proofs.Ranging.{ticketAt, gained}
+use Rattle.tables.specs.Tables.{Tables, capacityOf, ticketAt, gained}
 use Rattle.returns.specs.Freeing.{Freeable, freed}
 
 -- refused where there is no such node or it is not pending; freed where no range is open or the latest is no later than its insertion; else held

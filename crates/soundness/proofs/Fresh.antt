@@ -38,7 +38,7 @@ use Rattle.tables.specs.declared.Ticket.{Ticket}
 use Rattle.tables.specs.Tables.{Tables, noTicket, levelsIn, levelsOf, bucketsIn, bucketsOf, view, Memory, Sound}
 use Rattle.tables.proofs.Capacities.{capacity, capacity-of}
 use Rattle.soundness.specs.Tested.{lent, Parts}
-use Rattle.soundness.specs.SetUp.{freshRows, freshBuckets, freshTickets, freshCoordinator, freshTables, fits, answerIn, setUpAnswer, SetUpBy}
+use Rattle.soundness.specs.SetUp.{freshRows, freshBuckets, freshTickets, freshCoordinator, freshTables, fits, answerIn, setUpAnswer, tablesAfter, SetUpBy}
 
 -- ---- the rows
 
@@ -231,3 +231,7 @@ module _ (t : Tables) (cap : ℕ) (start : Version) where
         let l : levelsOf cap ≡ s .levels = ap levelsIn e in
         let n : length (t .buckets) ≡ bucketsOf cap = h .holds q .bucketed ∙ sym (ap bucketsIn e) in
         rw (a, b, c, n, ← l) (done q)
+
+-- LAW: a refused set-up leaves the tables as they were, cell by cell
+pub set-up-unchanged : (t t′ : Tables) (capacity : ℕ) (start : Version) (n : ℕ) → SetUpBy t t′ capacity start (SetUp.Refused n) → t′ ≡ t
+set-up-unchanged t t′ capacity start n o = o .tables ∙ ap (λ a. tablesAfter a t capacity start) (sym (o .answer))

@@ -16,8 +16,7 @@ use Rattle.places.specs.Places.{Places, ringFront, ringCount, ringOf, queued, s
 use Rattle.places.proofs.Wraps.{low, high}
 use Rattle.places.proofs.Lists.{ring-length}
 use Rattle.tables.specs.declared.Ticket.{Ticket}
-use Rattle.tables.specs.Tables.{noTicket}
-use Rattle.tables.proofs.Ranging.{ticketAt}
+use Rattle.tables.specs.Tables.{noTicket, ticketAt}
 use Rattle.soundness.specs.Tested.{Listed}
 
 -- ---- one node

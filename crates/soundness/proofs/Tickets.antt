@@ -11,8 +11,7 @@ use Rattle.lists.specs.Tests.{Says, Each}
 use Rattle.lists.proofs.Answers.{over}
 use Rattle.lists.proofs.Indexing.{each-all, all-each, near-pairwise, pairwise-near}
 use Rattle.tables.specs.declared.Ticket.{Ticket}
-use Rattle.tables.specs.Tables.{noTicket}
-use Rattle.tables.proofs.Ranging.{ticketAt}
+use Rattle.tables.specs.Tables.{noTicket, ticketAt}
 use Rattle.soundness.specs.Tested.{Rests, Earlier, Opened}
 
 -- what is tested of the i-th of n

@@ -103,6 +103,14 @@ nodesOf keys values rows = map (nodeAt keys values rows) (orderOf rows (length k
 abbrev pub rangesOf : ℕ → List Ticket → ℕ → List M.Range
 rangesOf capacity tickets open′ = map (rangeOf capacity) (take open′ tickets)
 
+-- the ticket at an index
+abbrev pub ticketAt : List Ticket → ℕ → Ticket
+ticketAt ts i = getD ts i noTicket
+
+-- the ticket with h more nodes on its list
+abbrev pub gained : ℕ → Ticket → Ticket
+gained h t = record { version = t .version; low = t .low; high = t .high; rest = t .rest; held = t .held + h }
+
 unfoldable pub view : Tables → M.State
 view t =
     record {

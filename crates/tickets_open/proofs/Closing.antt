@@ -10,7 +10,7 @@ use lib.Dec.{eqb, ltb}
 use borrow.Author.Tests.{lt-ltb, le-ltb, eq-eqb, ne-eqb, ltb-true}
 use Rattle.tables.specs.declared.Ticket.{Ticket}
 use Rattle.tables.specs.declared.Coordinator.{Coordinator}
-use Rattle.tables.proofs.Ranging.{ticketAt}
+use Rattle.tables.specs.Tables.{ticketAt}
 use Rattle.ranges.specs.Tickets.{indexOf, slide}
 use Rattle.ranges.specs.Close.{CloseReady, closing, closeAt}
 use Rattle.tickets_open.specs.Open.{openIn, removedIn, removed}

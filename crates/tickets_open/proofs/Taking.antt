@@ -8,8 +8,7 @@ use native.Mathlib.Omega.{arith}
 use borrow.Author.Tests.{lt-ltb, le-ltb, eq-eqb, ne-eqb}
 use lib.ListN.{length, replicate, set}
 use Rattle.tables.specs.declared.Ticket.{Ticket}
-use Rattle.tables.specs.Tables.{noTicket}
-use Rattle.tables.proofs.Ranging.{ticketAt, gained}
+use Rattle.tables.specs.Tables.{noTicket, ticketAt, gained}
 use Rattle.ranges.specs.Tickets.{slide}
 use Rattle.tickets_open.specs.declared.Place.{Place}
 use Rattle.tickets_open.specs.declared.Changed.{Changed}

@@ -7,7 +7,7 @@ use lib.ListN.{length, set}
 use lib.Dec.{eqb, ltb}
 use Rattle.sizes.specs.declared.Node.{Node}
 use Rattle.tables.specs.declared.Ticket.{Ticket}
-use Rattle.tables.proofs.Ranging.{ticketAt, gained}
+use Rattle.tables.specs.Tables.{ticketAt, gained}
 use Rattle.ranges.specs.Tickets.{indexOf, slide}
 use Rattle.tickets_open.specs.declared.Place.{Place}
 use Rattle.tickets_open.specs.declared.Place.the-variants.{At, Nothing}

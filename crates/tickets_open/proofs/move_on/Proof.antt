@@ -62,7 +62,7 @@ use Rattle.tickets_open.proofs.Taking.{changed-from}
 use mathlib.Core.Bool.{cond, false}
 use lib.Dec.{eqb, ltb}
 use lib.ListN.{set}
-use Rattle.tables.proofs.Ranging.{ticketAt}
+use Rattle.tables.specs.Tables.{ticketAt}
 use Rattle.tickets_open.specs.Open.{changed, resting}
 
 abbrev parameters : List (Parameter 1)
