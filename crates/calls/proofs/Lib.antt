@@ -1,3 +1,4 @@
 pub mod Once
 pub mod Entering
+pub mod Unchanged
 pub mod Histories
