@@ -5,3 +5,6 @@ pub mod Pairing
 pub mod Laying
 pub mod Listing
 pub mod Once
+pub mod Codes
+pub mod Refusals
+pub mod Unchanged

@@ -62,7 +62,7 @@ unfolding M.after
 after-snoc s [] c = refl
 after-snoc s (d ∷ cs) c = after-snoc (M.next s d) cs c
 
-tables-snoc : (t : Tables) (cs : List Call) (c : Call) → tablesAfter t (cs ++ (c ∷ [])) ≡ turnTables (tablesAfter t cs) c
+pub tables-snoc : (t : Tables) (cs : List Call) (c : Call) → tablesAfter t (cs ++ (c ∷ [])) ≡ turnTables (tablesAfter t cs) c
 tables-snoc t [] c = refl
 tables-snoc t (d ∷ cs) c = tables-snoc (turnTables t d) cs c
 
@@ -79,7 +79,7 @@ bytes-snoc = one-more (λ (c : Call). bytesOf (numbersOf c)) bytesIn refl (λ c 
 cells-snoc : (hs : List (C.Call × C.Answer)) (h : C.Call × C.Answer) → cellsIn (hs ++ (h ∷ [])) ≡ cellsIn hs ++ cellsOf (C.code (h .0)) (h .1)
 cells-snoc = one-more (λ (h : C.Call × C.Answer). cellsOf (C.code (h .0)) (h .1)) cellsIn refl (λ h hs. refl)
 
-pairs-snoc : (hs : List (C.Call × C.Answer)) (h : C.Call × C.Answer) → pairsIn (hs ++ (h ∷ [])) ≡ pairsIn hs ++ C.pairsIn (h .1)
+pub pairs-snoc : (hs : List (C.Call × C.Answer)) (h : C.Call × C.Answer) → pairsIn (hs ++ (h ∷ [])) ≡ pairsIn hs ++ C.pairsIn (h .1)
 pairs-snoc = one-more (λ (h : C.Call × C.Answer). C.pairsIn (h .1)) pairsIn refl (λ h hs. refl)
 
 -- LAW: an answer has five cells
@@ -170,7 +170,7 @@ pub read-length : {rest : List ℕ} {c : Call} {len : ℕ} → WholeCall rest c 
 read-length r = reached-length (call-reached r)
 
 -- the calls so far and one more, made on what the calls so far left
-made-more : (t t′ : Tables) (cs : List Call) (c : Call) → view t′ ≡ M.after (view t) (map (meant room) cs) → madeOn t (cs ++ (c ∷ [])) ≡ madeOn t cs ++ ((meant room c, answerOf t′ c) ∷ [])
+pub made-more : (t t′ : Tables) (cs : List Call) (c : Call) → view t′ ≡ M.after (view t) (map (meant room) cs) → madeOn t (cs ++ (c ∷ [])) ≡ madeOn t cs ++ ((meant room c, answerOf t′ c) ∷ [])
 unfolding madeOn answerOf
 made-more t t′ cs c e =
     ap (M.history (view t)) (map-append (meant room) cs (c ∷ []))

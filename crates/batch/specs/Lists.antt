@@ -47,6 +47,13 @@ pub record Output : Type 0 where
   pub keys : List ℤ
   pub values : List ℤ
 
+-- the second leaves the tables, the pairs and both pair buffers as the first does
+pub record Unchanged (first second : Output) : Type 0 where
+  pub tables : second .tables ≡ first .tables
+  pub pairs : second .pairs ≡ first .pairs
+  pub keys : second .keys ≡ first .keys
+  pub values : second .values ≡ first .values
+
 -- what is lent, as input and as output
 abbrev pub inputOf : Tables → List ℕ → Bool → List ℤ → List ℤ → List ℤ → Input
 inputOf tables bytes more answers keys values =

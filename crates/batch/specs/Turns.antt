@@ -1,11 +1,15 @@
 -- One call of a list: what it asks of the model, and what it does to sound tables and to the places of the pair buffers that it is lent.
 -- Assumes nothing.
 use mathlib.Core.Path.{_≡_}
-use mathlib.Core.List.{List, [], map}
+use mathlib.Core.Bool.{cond}
+use mathlib.Core.List.{List, [], _∷_, _++_, map}
 use Prim.Native.Nat.{ℕ, min, _≤_}
-use lib.ListN.{length}
+use lib.ListN.{length, getD, take, drop}
+use lib.Dec.{eqb}
 use lib.IntN.{ℤ}
+use lib.Signed.{mag}
 use Rattle.lists.specs.Buffers.{written}
+use Rattle.groups.specs.Signs.{turned}
 use Rattle.transactions.specs.declared.Call.{Call}
 use Rattle.transactions.specs.declared.Call.the-variants.{Lookup, Insert, Remove, HandOver, Ceil, Floor, Succ, Pred, Fast, Open, Step, Close, Sweep, Tally}
 use Rattle.model.specs.Plain.{Pair}
@@ -55,6 +59,22 @@ meant places (Step v n) = C.step (v .0) (min n places)
 meant places (Close v) = C.close (v .0)
 meant places Sweep = C.sweep
 meant places Tally = C.tally
+
+-- how many of the numbers behind a code are keys and values, which come first
+abbrev pub signedBehind : ℕ → ℕ
+signedBehind code = getD (1 ∷ 2 ∷ 1 ∷ 0 ∷ 1 ∷ 1 ∷ 1 ∷ 1 ∷ 2 ∷ 2 ∷ 0 ∷ 0 ∷ 0 ∷ 0 ∷ []) code 0
+
+-- numbers as a file has them: so many turned, the others as they are
+abbrev pub filed : ℕ → List ℤ → List ℕ
+filed signed xs = map turned (take signed xs) ++ map mag (drop signed xs)
+
+-- the code and the numbers that a file has for a call of the model
+abbrev pub inFile : C.Call → List ℕ
+inFile c = C.code c ∷ filed (signedBehind (C.code c)) (C.written c .1)
+
+-- a call's code and numbers, but a step's room is at most so many places
+abbrev pub withRoom : ℕ → List ℕ → List ℕ
+withRoom places ns = cond (eqb (getD ns 0 0) 10) (take 2 ns ++ (min (getD ns 2 0) places ∷ [])) ns
 
 -- the tables after the call
 unfoldable pub turnTables : Tables → Call → Tables

@@ -2,3 +2,4 @@
 pub mod Data
 pub mod Once
 pub mod Putting
+pub mod Unchanged

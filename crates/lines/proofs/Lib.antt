@@ -5,3 +5,4 @@ pub mod Fitting
 pub mod Parting
 pub mod Cutting
 pub mod Filing
+pub mod PrintsOnce

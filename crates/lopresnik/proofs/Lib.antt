@@ -2,3 +2,4 @@
 pub mod Data
 pub mod Passing
 pub mod Once
+pub mod Unchanged

@@ -1,7 +1,10 @@
 -- What an exported function says, by the lent form that it calls.
 -- Assumes nothing.
 use mathlib.Core.Path.{_≡_}
+use mathlib.Core.List.{List}
 use Prim.Native.Nat.{ℕ}
+use lib.ListN.{getD}
+use lib.IntN.{ℤ, pos}
 use Rattle.model.specs.declared.SetUp.{SetUp}
 use Rattle.batch.specs.declared.End.{End}
 use Rattle.lent.specs.declared.Run.{Run}
@@ -12,6 +15,10 @@ pub record Gives {E R : Type 0} (Form : E → Type 0) (numbers : E → R) (r : R
   pub made : E
   pub form : Form made
   pub is : r ≡ numbers made
+
+-- 0, or the refusal of a call: its second cell
+abbrev pub refusalIn : List ℤ → ℤ
+refusalIn cells = getD cells 1 (pos 0)
 
 -- 0, or the refusal of a set-up
 abbrev pub refusal : SetUp → ℕ

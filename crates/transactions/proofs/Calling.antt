@@ -13,7 +13,7 @@ use mir.Syntax.{w32, w64}
 use mir.Val.{Fits, SFits}
 use Rattle.lists.specs.Holds.{All}
 use Rattle.groups.specs.Signs.{turned, unturned}
-use Rattle.groups.proofs.Signing.{unturned-turned, turned-fits}
+use Rattle.groups.proofs.Signing.{unturned-turned, turned-fits, unturned-fits}
 use Rattle.transactions.specs.declared.Header.{Header}
 use Rattle.transactions.specs.declared.Call.{Call}
 use Rattle.transactions.specs.declared.Call.the-variants.{Lookup, Insert, Remove, HandOver, Ceil, Floor, Succ, Pred, Fast, Open, Step, Close, Sweep, Tally}
@@ -120,6 +120,27 @@ call-ready (Step version room) f = code 10 (omega arith) (narrow (version .0) (f
 call-ready (Close version) f = code 11 (omega arith) (narrow (version .0) f refl done)
 call-ready Sweep f = code 12 (omega arith) done
 call-ready Tally f = code 13 (omega arith) done
+
+-- a signed number that is written within 64 bits has 64 bits
+signed-fits : (z : ℤ) → turned z ≤ any → SFits w64 z
+signed-fits z h = subst (SFits w64) (unturned-turned z) (unturned-fits (turned z) (omega arith))
+
+-- LAW: and the fields of a call whose numbers are within their limits are of their types
+pub call-typed : (call : Call) → Within callLimit (numbersOf call) → Typed call
+call-typed (Lookup k) w = signed-fits k (w .1 .0)
+call-typed (Insert k v coin) w = (signed-fits k (w .1 .0), signed-fits v (w .1 .1 .0), record { fits = omega (arith, w .1 .1 .1 .0) })
+call-typed (Remove k) w = signed-fits k (w .1 .0)
+call-typed (HandOver node) w = record { fits = omega (arith, w .1 .0) }
+call-typed (Ceil k) w = signed-fits k (w .1 .0)
+call-typed (Floor k) w = signed-fits k (w .1 .0)
+call-typed (Succ k) w = signed-fits k (w .1 .0)
+call-typed (Pred k) w = signed-fits k (w .1 .0)
+call-typed (Fast l r) w = (signed-fits l (w .1 .0), signed-fits r (w .1 .1 .0))
+call-typed (Open l r) w = (signed-fits l (w .1 .0), signed-fits r (w .1 .1 .0))
+call-typed (Step version room) w = (record { fits = omega (arith, w .1 .0) }, record { fits = omega (arith, w .1 .1 .0) })
+call-typed (Close version) w = record { fits = omega (arith, w .1 .0) }
+call-typed Sweep w = tt
+call-typed Tally w = tt
 
 pub header-ready : (header : Header) → TypedHeader header → Ready headerLimit (headerOf header)
 header-ready header f = narrow (header .capacity) (f .0) refl (narrow (header .start .0) (f .1) refl done)
