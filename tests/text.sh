@@ -151,7 +151,7 @@ expect "a word of 4000 bytes behind a call" faulty "${header}sweep $(repeated y 
 expect "control characters" faulty "${header}\\033[31mred\\001\\177\\n" "line 2: \"?[31mred??\": no such call ($calls)" 2
 expect "bytes that are no ASCII" faulty "${header}lookup \\303\\2741\\000\\377\\n" 'line 2: "??1??": a number was expected' 2
 for byte in 000 001 007 010 013 014 033 177 200 233 377; do
-  expect "the byte $byte is not echoed" told_printable "${header}lookup \\$byte\\n"
+  expect "the byte $byte is not echoed" told_printable "${header}\\${byte}x\\n"
 done
 
 # Texts as people write them.

@@ -3,7 +3,7 @@
 use mathlib.Core.Path.{_≡_, refl, sym, ap, _∙_}
 use mathlib.Core.Bool.{Bool, true, false, cond}
 use mathlib.Core.List.{List, [], _∷_}
-use Prim.Native.Nat.{ℕ, _≤_, _<_}
+use Prim.Native.Nat.{ℕ, zero, suc, _≤_, _<_}
 use native.Mathlib.Omega.{arith}
 use lib.Dec.{eqb, leb}
 use lib.IntN.{ℤ, pos, negsuc}
@@ -99,3 +99,30 @@ pub uncoded : (code : ℕ) (s : Sense) (ns : List ℕ) → numbers (code ∷ ns)
 uncoded code nothing ns e = absurd (let z : _≡_ {A = ℕ} 0 1 = cc in omega arith)
 uncoded code (numbers ms) ns e = let q : ms ≡ ns = cc in ap numbers q
 uncoded code (wrong f at) ns e = no-numbers (sym e)
+
+-- a word is well where one of this kind must stand
+pub record Well (kind : ℕ) (word : List ℕ) : Type 0 where
+  pub worth : ℕ
+  pub is : operand kind word ≡ Of worth
+
+-- LAW: the words in front of the one at fault are well: it is the first from the left
+pub well-before : (ks : List ℕ) (ws : List (List ℕ)) (f : Fault) (n : ℕ) → operands ks ws ≡ wrong f n → (i : ℕ) → i < n → Well (getD ks i 0) (getD ws i [])
+well-before [] [] f n e i h = no-numbers (sym e)
+well-before [] (w ∷ ws) f n e i h = absurd (let q : 0 ≡ n = cc in omega arith)
+well-before (k ∷ ks) [] f n e i h = absurd (let q : 0 ≡ n = cc in omega arith)
+well-before (k ∷ ks) (w ∷ ws) f n e i h = value (operand k w) refl e (well-before ks ws)
+  where
+    rest : (m : ℕ) → operand k w ≡ Of m → (s : Sense) → operands ks ws ≡ s → with m s ≡ wrong f n
+        → ((g : Fault) (l : ℕ) → operands ks ws ≡ wrong g l → (j : ℕ) → j < l → Well (getD ks j 0) (getD ws j [])) → Well (getD (k ∷ ks) i 0) (getD (w ∷ ws) i [])
+    rest m o nothing r q again = absurd (let z : _≡_ {A = ℕ} 0 1 = cc in omega arith)
+    rest m o (numbers ns) r q again = no-numbers (sym q)
+    rest m o (wrong g l) r q again = at i h
+      where
+        at : (j : ℕ) → j < n → Well (getD (k ∷ ks) j 0) (getD (w ∷ ws) j [])
+        at zero h = record { worth = m; is = o }
+        at (suc j) h = again g l r j (let z : suc l ≡ n = cc in omega arith)
+
+    value : (v : Value) → operand k w ≡ v → next v (operands ks ws) ≡ wrong f n
+        → ((g : Fault) (l : ℕ) → operands ks ws ≡ wrong g l → (j : ℕ) → j < l → Well (getD ks j 0) (getD ws j [])) → Well (getD (k ∷ ks) i 0) (getD (w ∷ ws) i [])
+    value (Of m) o q again = rest m o (operands ks ws) refl q again
+    value (Wrong g) o q again = absurd (let z : 0 ≡ n = cc in omega arith)

@@ -6,7 +6,7 @@ use Rattle.notation.proofs.fault_byte.Statement.{statement}
 use Rattle.notation.proofs.fault_byte.Tie as tie
 
 returns : tie.Need-returns
-returns c = no-call 127 (omega arith) (omega arith)
+returns c = no-call _ (omega arith) (omega arith)
 
 pub fault-byte-spec : {M : Type 1} → statement M
 fault-byte-spec = tie.close (tie.spec returns)
