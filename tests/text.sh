@@ -53,7 +53,7 @@ same_file() {
 # What is told is printable ASCII and line feeds.
 told_printable() {
   make "$1"
-  [ -s "$work/said" ] && ! LC_ALL=C grep -q '[^ -~]' "$work/said"
+  [ -s "$work/said" ] && [ "$(LC_ALL=C tr -d '\n -~' <"$work/said" | wc -c)" -eq 0 ]
 }
 
 # Something is told of a text exactly when its file does not run to the end.

@@ -58,6 +58,16 @@ shown-printable word = go (leb (length word) 40)
     go true = bytes word
     go false = all-append Printable (map shownByte (take 40 word)) (46 ∷ 46 ∷ []) (bytes (take 40 word)) ((omega arith, omega arith), ((omega arith, omega arith), tt))
 
+-- LAW: it has at most 42 bytes
+pub shown-short : (word : List ℕ) → length (shown word) ≤ 42
+shown-short word = go (leb (length word) 40) refl
+  where
+    go : (t : Bool) → leb (length word) 40 ≡ t → length (cond t (map shownByte word) (map shownByte (take 40 word) ++ (46 ∷ 46 ∷ []))) ≤ 42
+    go true e = rw (length-map word shownByte) (omega (arith, leb-true (length word) 40 e))
+    go false e =
+        rw (length-append (map shownByte (take 40 word)) (46 ∷ 46 ∷ []), length-map (take 40 word) shownByte, length-take-le 40 word (omega (arith, leb-false (length word) 40 e)))
+        (omega arith)
+
 -- a part of a line, byte by byte
 part-length : (start end : ℕ) (line : List ℕ) → end ≤ length line → length (part start end line) ≡ end - start
 part-length start end line h = length-take-le (end - start) (drop start line) (rw length-drop (omega arith))
