@@ -18,7 +18,7 @@ use Rattle.notation.specs.declared.numerals.Value.{Value}
 use Rattle.notation.specs.declared.numerals.Value.the-variants.{Of, Wrong}
 use Rattle.notation.specs.declared.forms.Name.{Name}
 use Rattle.notation.specs.declared.forms.Form.{Form}
-use Rattle.notation.specs.declared.Span.{Span}
+use Rattle.notation.specs.declared.words.Span.{Span}
 use Rattle.notation.specs.Words.{words, part, NextWord}
 use Rattle.notation.specs.Forms.{names, start, nameOf, kinds, same, find, operand, Sense, numbers, wrong, with, next, missing, operands}
 use Rattle.notation.specs.Inner.{NameOf, FormOf, counted}

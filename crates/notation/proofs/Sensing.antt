@@ -15,7 +15,7 @@ use Rattle.notation.specs.declared.Fault.{Fault}
 use Rattle.notation.specs.declared.Fault.the-variants.{UnknownWord, NotANumber, StartMissing}
 use Rattle.notation.specs.declared.numerals.Value.{Value}
 use Rattle.notation.specs.declared.numerals.Value.the-variants.{Of, Wrong}
-use Rattle.notation.specs.declared.Span.{Span}
+use Rattle.notation.specs.declared.words.Span.{Span}
 use Rattle.notation.specs.Words.{words, part, NextWord}
 use Rattle.notation.specs.Numerals.{allDigits, integerOf, allowed, plainValue, valueAs, digitsValue, number}
 use Rattle.notation.specs.Forms.{names, start, kinds, same, find, operand, Sense, nothing, numbers, wrong, with, next, operands, formed, sense}

@@ -8,7 +8,7 @@ use native.Mathlib.Omega.{arith}
 use native.Mathlib.Nat.{zero-add}
 use lib.Dec.{leb}
 use lib.ListN.{length, take, drop, set, getD, length-drop, length-take, length-append, length-map}
-use lib.Seq.{length-take-le, take-take, getD-take, getD-drop}
+use lib.Seq.{length-take-le, take-take, getD-take, getD-drop, drop-append-seam}
 use borrow.Author.Tests.{le-leb, lt-leb, leb-true, leb-false}
 use Rattle.lists.specs.Holds.{All}
 use Rattle.lists.proofs.Holding.{all-every, all-append, all-map}
@@ -146,3 +146,7 @@ no-call byte h k behind at more = record {
 -- LAW: whatever is read at such a byte is that reading stops there
 pub stops-there : {byte : ℕ} → NoCall byte → (behind : List ℕ) (at : ℕ) (more : Bool) (r : Reading) → CallRead (byte ∷ behind) at more r → r ≡ Reading.Stop at
 stops-there {byte} n behind at more r c = call-read-same (byte ∷ behind) at more r (Reading.Stop at) c (n behind at more)
+
+-- LAW: so a file that ends with it stops at it, where the calls in front of it end
+pub stops-behind : {byte : ℕ} → NoCall byte → (front behind : List ℕ) (more : Bool) (r : Reading) → CallRead (drop (length front) (front ++ (byte ∷ behind))) (length front) more r → r ≡ Reading.Stop (length front)
+stops-behind {byte} n front behind more r c = stops-there n behind (length front) more r (rw (drop-append-seam front (byte ∷ behind)) at c)

@@ -12,7 +12,7 @@ use borrow.Author.Tests.{not-true, not-false, eq-eqb, ne-eqb, eqb-true}
 use lib.ListN.{length, take, drop, getD, drop-of-length-le, length-drop, List·getD-eq-default}
 use lib.Seq.{drop-cons, drop-drop, getD-drop}
 use Rattle.lists.specs.Filters.{filter, empty}
-use Rattle.notation.specs.declared.Span.{Span}
+use Rattle.notation.specs.declared.words.Span.{Span}
 use Rattle.notation.specs.Words.{blank, pieces, remark, unremarked, words, runOf, wordRun, part, NextWord, WordAt}
 
 -- a run at a place, by what the code's test of the byte there answers: it ends there, it goes on, or the line ends

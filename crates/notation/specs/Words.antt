@@ -7,7 +7,7 @@ use Prim.Native.Nat.{ℕ, suc, _+_, _-_, _≤_, _<_}
 use lib.Dec.{eqb}
 use lib.ListN.{length, take, drop, getD}
 use Rattle.lists.specs.Filters.{filter, empty}
-use Rattle.notation.specs.declared.Span.{Span}
+use Rattle.notation.specs.declared.words.Span.{Span}
 
 -- a space, a tab, a line feed or a carriage return
 abbrev pub blank : ℕ → Bool

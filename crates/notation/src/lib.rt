@@ -25,12 +25,6 @@ use sizes::Version;
 use transactions::Call;
 use transactions::Header;
 
-// From a place of a line up to another.
-pub struct Span {
-    pub start: usize,
-    pub end: usize,
-}
-
 // Why a line is neither a header nor a call. Out of range: that of a key or value (0), of a coin (1), below 2^32 (2).
 pub enum Fault {
     UnknownWord,

@@ -4,7 +4,12 @@ ghost use mathlib.Core.Path.{_≡_};
 ghost use Prim.Native.Nat.{_+_, _≤_};
 ghost use lib.ListN.{length, drop};
 ghost use Rattle.notation.specs.Words.{blank, runOf, NextWord, WordAt};
-use crate::Span;
+
+// From a place of a line up to another.
+pub struct Span {
+    pub start: usize,
+    pub end: usize,
+}
 
 // A space, a tab, a line feed or a carriage return.
 fn is_blank(byte: u8) -> bool
