@@ -25,6 +25,10 @@ shown word = cond (leb (length word) 40) (map shownByte word) (map shownByte (ta
 abbrev pub markLength : List ℕ → ℕ
 markLength text = cond (same (take 3 text) (239 ∷ 187 ∷ 191 ∷ [])) 3 0
 
+-- the fault byte, which is no code and never will be: the greatest number of one byte
+abbrev pub faultByte : ℕ
+faultByte = 127
+
 -- a byte at which reading a call stops, at its own place, whatever stands behind it or may follow
 abbrev pub NoCall : ℕ → Type 0
 NoCall byte = (behind : List ℕ) (at : ℕ) (more : Bool) → CallRead (byte ∷ behind) at more (Reading.Stop at)

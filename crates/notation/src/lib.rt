@@ -14,7 +14,7 @@ ghost use Rattle.transactions.specs.Calls.{small};
 ghost use Rattle.notation.specs.Words.{words as Words·words};
 ghost use Rattle.notation.specs.Forms.{numbers as Forms·numbers, kinds, sense, senseOf};
 ghost use Rattle.notation.specs.Texts.{textOf, headerText};
-ghost use Rattle.notation.specs.Showing.{shown, markLength, NoCall};
+ghost use Rattle.notation.specs.Showing.{shown, markLength, faultByte, NoCall};
 ghost use Rattle.notation.specs.Inner.{counted, Ranged};
 use forms::Operands;
 use forms::Three;
@@ -61,7 +61,7 @@ pub fn mark_length(text: &[u8]) -> usize
 
 // The byte that a fault leaves behind what was written of a schedule file: no call begins with it.
 pub fn fault_byte() -> u8
-    ensures { λ r. ⌜ NoCall r ⌝ }
+    ensures { λ r. ⌜ (r ≡ faultByte) × NoCall r ⌝ }
 {
     127
 }
