@@ -147,5 +147,6 @@ check_walks tools/lent/lent.py tickets_open
 check_walks tools/lent/lent.py lent
 check_walks tools/lent/export.py lopresnik
 include tests/schedule.sh
+include tests/text.sh
 include env -u CARGO_TARGET_DIR tests/hosts.sh
 finish

@@ -32,17 +32,17 @@ unfolding words number names start kinds sense
 least-key = refl
 
 -- `lookup -9223372036854775809`
-below-least : says (108 ∷ 111 ∷ 111 ∷ 107 ∷ 117 ∷ 112 ∷ 32 ∷ 45 ∷ 57 ∷ 50 ∷ 50 ∷ 51 ∷ 51 ∷ 55 ∷ 50 ∷ 48 ∷ 51 ∷ 54 ∷ 56 ∷ 53 ∷ 52 ∷ 55 ∷ 55 ∷ 53 ∷ 56 ∷ 48 ∷ 57 ∷ []) ≡ wrong OutOfRange
+below-least : says (108 ∷ 111 ∷ 111 ∷ 107 ∷ 117 ∷ 112 ∷ 32 ∷ 45 ∷ 57 ∷ 50 ∷ 50 ∷ 51 ∷ 51 ∷ 55 ∷ 50 ∷ 48 ∷ 51 ∷ 54 ∷ 56 ∷ 53 ∷ 52 ∷ 55 ∷ 55 ∷ 53 ∷ 56 ∷ 48 ∷ 57 ∷ []) ≡ wrong (OutOfRange 0) 1
 unfolding words number names start kinds sense
 below-least = refl
 
 -- `hand-over -1`
-negative-node : says (104 ∷ 97 ∷ 110 ∷ 100 ∷ 45 ∷ 111 ∷ 118 ∷ 101 ∷ 114 ∷ 32 ∷ 45 ∷ 49 ∷ []) ≡ wrong OutOfRange
+negative-node : says (104 ∷ 97 ∷ 110 ∷ 100 ∷ 45 ∷ 111 ∷ 118 ∷ 101 ∷ 114 ∷ 32 ∷ 45 ∷ 49 ∷ []) ≡ wrong (OutOfRange 2) 1
 unfolding words number names start kinds sense
 negative-node = refl
 
 -- `step 1 4294967296`
-great-room : says (115 ∷ 116 ∷ 101 ∷ 112 ∷ 32 ∷ 49 ∷ 32 ∷ 52 ∷ 50 ∷ 57 ∷ 52 ∷ 57 ∷ 54 ∷ 55 ∷ 50 ∷ 57 ∷ 54 ∷ []) ≡ wrong OutOfRange
+great-room : says (115 ∷ 116 ∷ 101 ∷ 112 ∷ 32 ∷ 49 ∷ 32 ∷ 52 ∷ 50 ∷ 57 ∷ 52 ∷ 57 ∷ 54 ∷ 55 ∷ 50 ∷ 57 ∷ 54 ∷ []) ≡ wrong (OutOfRange 2) 2
 unfolding words number names start kinds sense
 great-room = refl
 
@@ -57,31 +57,56 @@ unfolding words number names start kinds sense
 empty-line = refl
 
 -- `inset 1 2 3`
-unknown-word : says (105 ∷ 110 ∷ 115 ∷ 101 ∷ 116 ∷ 32 ∷ 49 ∷ 32 ∷ 50 ∷ 32 ∷ 51 ∷ []) ≡ wrong UnknownWord
+unknown-word : says (105 ∷ 110 ∷ 115 ∷ 101 ∷ 116 ∷ 32 ∷ 49 ∷ 32 ∷ 50 ∷ 32 ∷ 51 ∷ []) ≡ wrong UnknownWord 0
 unfolding words number names start kinds sense
 unknown-word = refl
 
 -- `insert 1 2`
-missing : says (105 ∷ 110 ∷ 115 ∷ 101 ∷ 114 ∷ 116 ∷ 32 ∷ 49 ∷ 32 ∷ 50 ∷ []) ≡ wrong NumberMissing
+missing : says (105 ∷ 110 ∷ 115 ∷ 101 ∷ 114 ∷ 116 ∷ 32 ∷ 49 ∷ 32 ∷ 50 ∷ []) ≡ wrong NumberMissing 3
 unfolding words number names start kinds sense
 missing = refl
 
 -- `lookup +1`
-plus : says (108 ∷ 111 ∷ 111 ∷ 107 ∷ 117 ∷ 112 ∷ 32 ∷ 43 ∷ 49 ∷ []) ≡ wrong NotANumber
+plus : says (108 ∷ 111 ∷ 111 ∷ 107 ∷ 117 ∷ 112 ∷ 32 ∷ 43 ∷ 49 ∷ []) ≡ wrong NotANumber 1
 unfolding words number names start kinds sense
 plus = refl
 
 -- `lookup -`
-minus-alone : says (108 ∷ 111 ∷ 111 ∷ 107 ∷ 117 ∷ 112 ∷ 32 ∷ 45 ∷ []) ≡ wrong NotANumber
+minus-alone : says (108 ∷ 111 ∷ 111 ∷ 107 ∷ 117 ∷ 112 ∷ 32 ∷ 45 ∷ []) ≡ wrong NotANumber 1
 unfolding words number names start kinds sense
 minus-alone = refl
 
 -- `sweep 1`
-too-many : says (115 ∷ 119 ∷ 101 ∷ 101 ∷ 112 ∷ 32 ∷ 49 ∷ []) ≡ wrong TooManyWords
+too-many : says (115 ∷ 119 ∷ 101 ∷ 101 ∷ 112 ∷ 32 ∷ 49 ∷ []) ≡ wrong TooManyWords 1
 unfolding words number names start kinds sense
 too-many = refl
 
 -- `capacity 64 from 0`
-no-start : says (99 ∷ 97 ∷ 112 ∷ 97 ∷ 99 ∷ 105 ∷ 116 ∷ 121 ∷ 32 ∷ 54 ∷ 52 ∷ 32 ∷ 102 ∷ 114 ∷ 111 ∷ 109 ∷ 32 ∷ 48 ∷ []) ≡ wrong StartMissing
+no-start : says (99 ∷ 97 ∷ 112 ∷ 97 ∷ 99 ∷ 105 ∷ 116 ∷ 121 ∷ 32 ∷ 54 ∷ 52 ∷ 32 ∷ 102 ∷ 114 ∷ 111 ∷ 109 ∷ 32 ∷ 48 ∷ []) ≡ wrong StartMissing 2
 unfolding words number names start kinds sense
 no-start = refl
+
+-- `hand-over 1 # why`: a remark behind a call
+remark-behind : says (104 ∷ 97 ∷ 110 ∷ 100 ∷ 45 ∷ 111 ∷ 118 ∷ 101 ∷ 114 ∷ 32 ∷ 49 ∷ 32 ∷ 35 ∷ 32 ∷ 119 ∷ 104 ∷ 121 ∷ []) ≡ numbers (3 ∷ 1 ∷ [])
+unfolding words number names start kinds sense
+remark-behind = refl
+
+-- `step 1 #2`: the room is in the remark
+remark-early : says (115 ∷ 116 ∷ 101 ∷ 112 ∷ 32 ∷ 49 ∷ 32 ∷ 35 ∷ 50 ∷ []) ≡ wrong NumberMissing 2
+unfolding words number names start kinds sense
+remark-early = refl
+
+-- `close 1#`: no remark, since the word begins with a digit
+no-remark : says (99 ∷ 108 ∷ 111 ∷ 115 ∷ 101 ∷ 32 ∷ 49 ∷ 35 ∷ []) ≡ wrong NotANumber 1
+unfolding words number names start kinds sense
+no-remark = refl
+
+-- `insert 1 x y`: the first word at fault, from the left
+first-fault : says (105 ∷ 110 ∷ 115 ∷ 101 ∷ 114 ∷ 116 ∷ 32 ∷ 49 ∷ 32 ∷ 120 ∷ 32 ∷ 121 ∷ []) ≡ wrong NotANumber 2
+unfolding words number names start kinds sense
+first-fault = refl
+
+-- `capacity 64`: the word `start` is missing at the end
+start-left-out : says (99 ∷ 97 ∷ 112 ∷ 97 ∷ 99 ∷ 105 ∷ 116 ∷ 121 ∷ 32 ∷ 54 ∷ 52 ∷ []) ≡ wrong StartMissing 2
+unfolding words number names start kinds sense
+start-left-out = refl

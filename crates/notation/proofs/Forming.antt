@@ -8,19 +8,19 @@ use native.Mathlib.Omega.{arith}
 use native.Mathlib.Nat.{le-antisymm}
 use native.Mathlib.Numerals.{add-one}
 use lib.Dec.{eqb, leb}
-use lib.ListN.{length, take, drop, getD, set, drop-of-length-le, List·getD-map, List·getD-append}
+use lib.ListN.{length, take, drop, getD, set, length-set, drop-of-length-le, List·getD-map, List·getD-append}
 use lib.Seq.{length-take-le, drop-cons, take-suc-set, getD-take}
 use borrow.Author.Tests.{eq-eqb, eqb-true, leb-true}
 use Rattle.lists.proofs.Entries.{tested-getD}
 use Rattle.notation.specs.declared.Fault.{Fault}
-use Rattle.notation.specs.declared.Fault.the-variants.{NumberMissing, TooManyWords, StartMissing}
+use Rattle.notation.specs.declared.Fault.the-variants.{TooManyWords, StartMissing}
 use Rattle.notation.specs.declared.numerals.Value.{Value}
 use Rattle.notation.specs.declared.numerals.Value.the-variants.{Of, Wrong}
 use Rattle.notation.specs.declared.forms.Name.{Name}
 use Rattle.notation.specs.declared.forms.Form.{Form}
-use Rattle.notation.specs.declared.Span.{Span}
+use Rattle.notation.specs.declared.words.Span.{Span}
 use Rattle.notation.specs.Words.{words, part, NextWord}
-use Rattle.notation.specs.Forms.{names, start, nameOf, kinds, same, find, operand, Sense, numbers, wrong, with, next, operands}
+use Rattle.notation.specs.Forms.{names, start, nameOf, kinds, same, find, operand, Sense, numbers, wrong, with, next, missing, operands}
 use Rattle.notation.specs.Inner.{NameOf, FormOf, counted}
 
 -- the code's tables
@@ -153,7 +153,7 @@ prefixed-snoc : (ns : List ℕ) (n : ℕ) (s : Sense) → prefixed (ns ++ (n ∷
 prefixed-snoc [] n s = refl
 prefixed-snoc (m ∷ ns) n s = ap (with m) (prefixed-snoc ns n s)
 
-pub prefixed-wrong : (ns : List ℕ) (f : Fault) → prefixed ns (wrong f) ≡ wrong f
+pub prefixed-wrong : (ns : List ℕ) (f : Fault) → prefixed ns (wrong f 0) ≡ wrong f (length ns)
 prefixed-wrong [] f = refl
 prefixed-wrong (n ∷ ns) f = rw (prefixed-wrong ns f)
 
@@ -164,35 +164,47 @@ prefixed-numbers (n ∷ ns) = rw (prefixed-numbers ns)
 -- the words behind a name, of which the first i were found: what is left of them, and what they say together
 pub record Found (ks : List ℕ) (line : List ℕ) (at : ℕ) (found : List ℕ) (place i : ℕ) : Type 0 where
   pub inside : place ≤ length line
+  pub few : i ≤ length found
   pub says : operands ks (words (drop at line)) ≡ prefixed (take i found) (operands (drop i ks) (words (drop place line)))
 
-module _ {ks line found : List ℕ} {at place i : ℕ} (f : Found ks line at found place i) (r : Span) (w : NextWord line place r) where
+module _ {ks line found : List ℕ} {at place i : ℕ} (f : Found ks line at found place i) (r : Span) (w : NextWord line place r) (code : ℕ) where
+  -- a fault behind the words found is that of the word behind them and the name
+  fault-here : (fault : Fault) (number : ℕ) → operands (drop i ks) (words (drop place line)) ≡ wrong fault 0 → number ≡ i + 1
+      → wrong fault number ≡ with code (operands ks (words (drop at line)))
+  fault-here fault number e n =
+      let s : operands ks (words (drop at line)) ≡ wrong fault i = f .says ∙ rw e (prefixed-wrong (take i found) fault ∙ ap (wrong fault) (length-take-le i found (f .few))) in
+      rw (s, n, add-one)
+
   -- no word is left
-  pub found-missing : i < length ks → r .start ≡ r .end → wrong NumberMissing ≡ operands ks (words (drop at line))
-  found-missing h e = sym (f .says ∙ rw (drop-cons ks i 0 h, w .none e) (prefixed-wrong (take i found) NumberMissing))
+  pub found-missing : i < length ks → r .start ≡ r .end → (fault : Fault) → fault ≡ missing (getD ks i 0) → wrong fault (i + 1) ≡ with code (operands ks (words (drop at line)))
+  found-missing h e fault m = fault-here fault (i + 1) (rw (drop-cons ks i 0 h, w .none e) (ap (λ x. wrong x 0) (sym m))) refl
 
   -- the next word
   at-word : i < length ks → r .start < r .end
-      → operands ks (words (drop at line)) ≡ prefixed (take i found) (next (operand (getD ks i 0) (part (r .start) (r .end) line)) (operands (drop (suc i) ks) (words (drop (r .end) line))))
-  at-word h e = f .says ∙ rw (drop-cons ks i 0 h, w .some e)
+      → operands (drop i ks) (words (drop place line)) ≡ next (operand (getD ks i 0) (part (r .start) (r .end) line)) (operands (drop (suc i) ks) (words (drop (r .end) line)))
+  at-word h e = rw (drop-cons ks i 0 h, w .some e)
 
   pub found-wrong : i < length ks → r .start < r .end → (fault : Fault) → operand (getD ks i 0) (part (r .start) (r .end) line) ≡ Wrong fault
-      → wrong fault ≡ operands ks (words (drop at line))
-  found-wrong h e fault o = sym (at-word h e ∙ rw o (prefixed-wrong (take i found) fault))
+      → wrong fault (i + 1) ≡ with code (operands ks (words (drop at line)))
+  found-wrong h e fault o = fault-here fault (i + 1) (at-word h e ∙ rw o) refl
 
+  -- all were found, and a word is left, or none
+  pub found-more : (count : ℕ) → length ks ≤ i → count ≡ i → r .start < r .end → wrong TooManyWords (count + 1) ≡ with code (operands ks (words (drop at line)))
+  found-more count h c e = fault-here TooManyWords (count + 1) (rw (drop-of-length-le ks h, w .some e)) (ap (λ n. n + 1) c)
+
+  pub found-all : length ks ≤ i → r .start ≡ r .end → numbers (code ∷ take i found) ≡ with code (operands ks (words (drop at line)))
+  found-all h e =
+      let s : operands ks (words (drop at line)) ≡ numbers (take i found) = f .says ∙ rw (drop-of-length-le ks h, w .none e) (prefixed-numbers (take i found)) in
+      rw s
+
+module _ {ks line found : List ℕ} {at place i : ℕ} (f : Found ks line at found place i) (r : Span) (w : NextWord line place r) where
   pub found-next : i < length ks → i < length found → r .start < r .end → (n : ℕ) → operand (getD ks i 0) (part (r .start) (r .end) line) ≡ Of n
       → Found ks line at (set found i n) (r .end) (i + 1)
   found-next h l e n o = record {
     inside = w .inside;
-    says = at-word h e ∙ rw (o, add-one, take-suc-set found i n l) (sym (prefixed-snoc (take i found) n _));
+    few = simp length-set (omega arith);
+    says = f .says ∙ ap (prefixed (take i found)) (at-word f r w 0 h e) ∙ rw (o, add-one, take-suc-set found i n l) (sym (prefixed-snoc (take i found) n _));
   }
-
-  -- all were found, and a word is left, or none
-  pub found-more : length ks ≤ i → r .start < r .end → wrong TooManyWords ≡ operands ks (words (drop at line))
-  found-more h e = sym (f .says ∙ rw (drop-of-length-le ks h, w .some e) (prefixed-wrong (take i found) TooManyWords))
-
-  pub found-all : length ks ≤ i → r .start ≡ r .end → numbers (take i found) ≡ operands ks (words (drop at line))
-  found-all h e = sym (f .says ∙ rw (drop-of-length-le ks h, w .none e) (prefixed-numbers (take i found)))
 
 -- an array of three, element by element
 three : (found : List ℕ) → length found ≡ 3 → getD found 0 0 ∷ getD found 1 0 ∷ getD found 2 0 ∷ [] ≡ found
@@ -213,8 +225,11 @@ module _ (code : ℕ) (r : Form) (o : FormOf code r) (i : ℕ) where
   pub kinds-over : r .count ≤ i → length (take (r .count) (r .kinds)) ≤ i
   kinds-over h = rw kinds-length h
 
+  pub kind-at : i < r .count → getD (take (r .count) (r .kinds)) i 0 ≡ getD (r .kinds) i 0
+  kind-at h = getD-take (r .count) (r .kinds) i 0 h
+
   pub operand-at : (word : List ℕ) {v w : Value} → i < r .count → v ≡ operand (getD (r .kinds) i 0) word → v ≡ w → operand (getD (take (r .count) (r .kinds)) i 0) word ≡ w
-  operand-at word h e f = rw (getD-take (r .count) (r .kinds) i 0 h) (sym e ∙ f)
+  operand-at word h e f = rw (kind-at h) (sym e ∙ f)
 
   -- the first numbers of an array of three
   pub counted-all : (found : List ℕ) → length found ≡ 3 → i ≤ r .count → r .count ≤ i

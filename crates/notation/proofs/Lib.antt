@@ -4,4 +4,5 @@ pub mod Forming
 pub mod Sensing
 pub mod Texting
 pub mod Trips
+pub mod Telling
 mod Examples

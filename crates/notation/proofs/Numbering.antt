@@ -74,40 +74,40 @@ pub worth-small : (n : ℕ) → n ≤ any → Worth.Of n ≡ worthOf n
 worth-small n h = rw (le-leb n any h)
 
 -- a key or value by its sign and magnitude, as the code tests them
-pub key-zero : (s : Bool) (m : ℕ) → m ≡ 0 → Of 0 ≡ keyValue (integerOf s m)
-key-zero true m e = rw e
-key-zero false m e = rw e
+pub key-zero : (k : ℕ) (s : Bool) (m : ℕ) → m ≡ 0 → Of 0 ≡ keyValue k (integerOf s m)
+key-zero k true m e = rw e
+key-zero k false m e = rw e
 
-pub key-low : (s : Bool) (m : ℕ) → s ≡ true → 9223372036854775808 < m → Wrong OutOfRange ≡ keyValue (integerOf s m)
-key-low s zero e h = absurd (omega arith)
-key-low s (suc m) e h = rw (e, le-ltb m (2 ^ 63) (omega arith))
+pub key-low : (k : ℕ) (s : Bool) (m : ℕ) → s ≡ true → 9223372036854775808 < m → Wrong (OutOfRange k) ≡ keyValue k (integerOf s m)
+key-low k s zero e h = absurd (omega arith)
+key-low k s (suc m) e h = rw (e, le-ltb m (2 ^ 63) (omega arith))
 
-pub key-negative : (s : Bool) (m : ℕ) → s ≡ true → (m ≡ 0 → ⊥) → m ≤ 9223372036854775808 → Of ((m - 1) * 2 + 1) ≡ keyValue (integerOf s m)
-key-negative s zero e z h = absurd (z refl)
-key-negative s (suc m) e z h = rw (e, lt-ltb m (2 ^ 63) (omega arith)) (ap Of (omega arith))
+pub key-negative : (k : ℕ) (s : Bool) (m : ℕ) → s ≡ true → (m ≡ 0 → ⊥) → m ≤ 9223372036854775808 → Of ((m - 1) * 2 + 1) ≡ keyValue k (integerOf s m)
+key-negative k s zero e z h = absurd (z refl)
+key-negative k s (suc m) e z h = rw (e, lt-ltb m (2 ^ 63) (omega arith)) (ap Of (omega arith))
 
-pub key-high : (s : Bool) (m : ℕ) → s ≡ false → 9223372036854775807 < m → Wrong OutOfRange ≡ keyValue (integerOf s m)
-key-high s m e h = rw (e, le-ltb m (2 ^ 63) (omega arith))
+pub key-high : (k : ℕ) (s : Bool) (m : ℕ) → s ≡ false → 9223372036854775807 < m → Wrong (OutOfRange k) ≡ keyValue k (integerOf s m)
+key-high k s m e h = rw (e, le-ltb m (2 ^ 63) (omega arith))
 
-pub key-positive : (s : Bool) (m : ℕ) → s ≡ false → m ≤ 9223372036854775807 → Of (m * 2) ≡ keyValue (integerOf s m)
-key-positive s m e h = rw (e, lt-ltb m (2 ^ 63) (omega arith)) (ap Of (omega arith))
+pub key-positive : (k : ℕ) (s : Bool) (m : ℕ) → s ≡ false → m ≤ 9223372036854775807 → Of (m * 2) ≡ keyValue k (integerOf s m)
+key-positive k s m e h = rw (e, lt-ltb m (2 ^ 63) (omega arith)) (ap Of (omega arith))
 
 -- a number that is not signed
-pub plain-high : (s : Bool) (m most : ℕ) → most < m → Wrong OutOfRange ≡ plainValue most (integerOf s m)
-plain-high true zero most h = absurd (omega arith)
-plain-high true (suc m) most h = refl
-plain-high false m most h = rw (lt-leb m most h)
+pub plain-high : (k : ℕ) (s : Bool) (m most : ℕ) → most < m → Wrong (OutOfRange k) ≡ plainValue k most (integerOf s m)
+plain-high k true zero most h = absurd (omega arith)
+plain-high k true (suc m) most h = refl
+plain-high k false m most h = rw (lt-leb m most h)
 
-pub plain-negative : (s : Bool) (m most : ℕ) → s ≡ true → 0 < m → Wrong OutOfRange ≡ plainValue most (integerOf s m)
-plain-negative s zero most e h = absurd (omega arith)
-plain-negative s (suc m) most e h = rw e
+pub plain-negative : (k : ℕ) (s : Bool) (m most : ℕ) → s ≡ true → 0 < m → Wrong (OutOfRange k) ≡ plainValue k most (integerOf s m)
+plain-negative k s zero most e h = absurd (omega arith)
+plain-negative k s (suc m) most e h = rw e
 
-pub plain-zero : (s : Bool) (m most : ℕ) → s ≡ true → m ≤ 0 → m ≤ most → Of m ≡ plainValue most (integerOf s m)
-plain-zero s zero most e h k = rw (e, le-leb 0 most k)
-plain-zero s (suc m) most e h k = absurd (omega arith)
+pub plain-zero : (k : ℕ) (s : Bool) (m most : ℕ) → s ≡ true → m ≤ 0 → m ≤ most → Of m ≡ plainValue k most (integerOf s m)
+plain-zero k s zero most e h l = rw (e, le-leb 0 most l)
+plain-zero k s (suc m) most e h l = absurd (omega arith)
 
-pub plain-positive : (s : Bool) (m most : ℕ) → s ≡ false → m ≤ most → Of m ≡ plainValue most (integerOf s m)
-plain-positive s m most e h = rw (e, le-leb m most h)
+pub plain-positive : (k : ℕ) (s : Bool) (m most : ℕ) → s ≡ false → m ≤ most → Of m ≡ plainValue k most (integerOf s m)
+plain-positive k s m most e h = rw (e, le-leb m most h)
 
 -- what an answer on digits tells of their worth
 pub worth-is : (n m : ℕ) → worthOf n ≡ Worth.Of m → n ≡ m
@@ -125,15 +125,15 @@ worth-exceeds n e = go (leb n any) refl e
     go false f q = leb-false n any f
 
 -- what is worth 2 ^ 64 or more is out of every range
-pub value-great : (k : ℕ) (s : Bool) (n : ℕ) → any < n → Wrong OutOfRange ≡ valueAs k (integerOf s n)
+pub value-great : (k : ℕ) (s : Bool) (n : ℕ) → any < n → Wrong (OutOfRange k) ≡ valueAs k (integerOf s n)
 value-great k s zero h = absurd (omega arith)
 value-great k s (suc n) h = go (eqb k 0) (eqb k 1) s
   where
-    go : (a b s : Bool) → Wrong OutOfRange ≡ cond a (keyValue (integerOf s (suc n))) (cond b (plainValue any (integerOf s (suc n))) (plainValue small (integerOf s (suc n))))
-    go true b true = key-low true (suc n) refl (omega arith)
-    go true b false = key-high false (suc n) refl (omega arith)
-    go false true s = plain-high s (suc n) any (omega arith)
-    go false false s = plain-high s (suc n) small (omega arith)
+    go : (a b s : Bool) → Wrong (OutOfRange k) ≡ cond a (keyValue k (integerOf s (suc n))) (cond b (plainValue k any (integerOf s (suc n))) (plainValue k small (integerOf s (suc n))))
+    go true b true = key-low k true (suc n) refl (omega arith)
+    go true b false = key-high k false (suc n) refl (omega arith)
+    go false true s = plain-high k s (suc n) any (omega arith)
+    go false false s = plain-high k s (suc n) small (omega arith)
 
 -- digits, and bytes that are none, behind a sign
 pub digits-wrong : (s : Bool) (k : ℕ) (ds : List ℕ) → allDigits ds ≡ false → Wrong NotANumber ≡ digitsValue s k ds

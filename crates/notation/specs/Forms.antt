@@ -91,46 +91,45 @@ find (name ∷ rest) word = cond (same word name) 0 (suc (find rest word))
 abbrev pub operand : ℕ → List ℕ → Value
 operand kind word = cond (eqb kind startWord) (cond (same word start) (Of 0) (Wrong StartMissing)) (number kind word)
 
--- what a line says: nothing, numbers as the schedule file has them, or why it is none
+-- what a line says: nothing, numbers as the schedule file has them, or why it is none and how many words stand in front of the first at fault
 pub data Sense : Type 0 where
   nothing : Sense
   numbers : List ℕ → Sense
-  wrong : Fault → Sense
+  wrong : Fault → ℕ → Sense
 
--- a number in front
+-- a number, which is one word, in front
 abbrev pub with : ℕ → Sense → Sense
 with n nothing = nothing
 with n (numbers ns) = numbers (n ∷ ns)
-with n (wrong fault) = wrong fault
+with n (wrong fault words) = wrong fault (suc words)
 
 abbrev pub next : Value → Sense → Sense
 next (Of n) rest = with n rest
-next (Wrong fault) rest = wrong fault
+next (Wrong fault) rest = wrong fault 0
+
+-- no word of this kind is left
+abbrev pub missing : ℕ → Fault
+missing kind = cond (eqb kind startWord) StartMissing NumberMissing
 
 -- words that must be of these kinds, tested from the left
 abbrev pub operands : List ℕ → List (List ℕ) → Sense
 operands [] [] = numbers []
-operands [] (word ∷ words) = wrong TooManyWords
-operands (kind ∷ kinds) [] = wrong NumberMissing
+operands [] (word ∷ words) = wrong TooManyWords 0
+operands (kind ∷ kinds) [] = wrong (missing kind) 0
 operands (kind ∷ kinds) (word ∷ words) = next (operand kind word) (operands kinds words)
 
 -- a line whose first word has this number
 abbrev pub formed : ℕ → List (List ℕ) → Sense
-formed code words = cond (eqb code 15) (wrong UnknownWord) (with code (operands (getD kinds code []) words))
-
--- a remark: the word begins with `#`
-abbrev pub remark : List ℕ → Bool
-remark [] = false
-remark (b ∷ bs) = eqb b 35
+formed code words = cond (eqb code 15) (wrong UnknownWord 0) (with code (operands (getD kinds code []) words))
 
 -- what a line of these words says
 unfoldable pub sense : List (List ℕ) → Sense
 sense [] = nothing
-sense (word ∷ words) = cond (remark word) nothing (formed (find names word) words)
+sense (word ∷ words) = formed (find names word) words
 
 -- what an answer says: a call's numbers, its code first; a header is a form of its own, with 0 for the word `start`
 abbrev pub senseOf : Line → Sense
 senseOf Line.Nothing = nothing
 senseOf (Line.Header header) = numbers (14 ∷ header .capacity ∷ 0 ∷ header .start .0 ∷ [])
 senseOf (Line.Call call) = numbers (numbersOf call)
-senseOf (Line.Fault fault) = wrong fault
+senseOf (Line.Fault fault word) = wrong fault word

@@ -27,10 +27,10 @@ pub record FormOf (code : ℕ) (r : Form) : Type 0 where
 abbrev pub counted : ℕ → Three → List ℕ
 counted code three = take (length (getD kinds code [])) (three .first ∷ three .second ∷ three .third ∷ [])
 
--- what an answer on the words behind a name says
+-- what an answer on a name and the words behind it says
 abbrev pub operandsOf : ℕ → Operands → Sense
-operandsOf code (Operands.Whole three) = numbers (counted code three)
-operandsOf code (Operands.Wrong fault) = wrong fault
+operandsOf code (Operands.Whole three) = numbers (code ∷ counted code three)
+operandsOf code (Operands.Wrong fault word) = wrong fault word
 
 -- numbers of these kinds: one below 2 ^ 32 is, and the word `start` counts as 0
 abbrev pub Ranged : List ℕ → List ℕ → Type 0

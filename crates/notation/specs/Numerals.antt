@@ -28,22 +28,22 @@ integerOf false n = pos n
 integerOf true zero = pos 0
 integerOf true (suc n) = negsuc n
 
--- a number where it is in range
-abbrev pub allowed : Bool → ℕ → Value
-allowed inRange n = cond inRange (Of n) (Wrong OutOfRange)
+-- a number where it is in the range of its kind
+abbrev pub allowed : ℕ → Bool → ℕ → Value
+allowed kind inRange n = cond inRange (Of n) (Wrong (OutOfRange kind))
 
 -- a key or value: of 64 bits, as the schedule file turns it
-abbrev pub keyValue : ℤ → Value
-keyValue z = allowed (ltb (mag z) (2 ^ 63)) (turned z)
+abbrev pub keyValue : ℕ → ℤ → Value
+keyValue kind z = allowed kind (ltb (mag z) (2 ^ 63)) (turned z)
 
 -- a number from 0 to the greatest
-abbrev pub plainValue : ℕ → ℤ → Value
-plainValue most (pos n) = allowed (leb n most) n
-plainValue most (negsuc n) = Wrong OutOfRange
+abbrev pub plainValue : ℕ → ℕ → ℤ → Value
+plainValue kind most (pos n) = allowed kind (leb n most) n
+plainValue kind most (negsuc n) = Wrong (OutOfRange kind)
 
 -- an integer where a word of this kind must stand: 0 a key or value, 1 a coin, else a capacity, version, node or room
 abbrev pub valueAs : ℕ → ℤ → Value
-valueAs kind z = cond (eqb kind 0) (keyValue z) (cond (eqb kind 1) (plainValue any z) (plainValue small z))
+valueAs kind z = cond (eqb kind 0) (keyValue kind z) (cond (eqb kind 1) (plainValue kind any z) (plainValue kind small z))
 
 -- digits behind a sign or none: at least one, and zeros in front are allowed
 abbrev pub digitsValue : Bool → ℕ → List ℕ → Value

@@ -5,7 +5,7 @@ ghost use mathlib.Core.List.{[]};
 ghost use lib.ListN.{length, getD, drop};
 ghost use Rattle.listing.specs.Puts.{Room, Put};
 ghost use Rattle.notation.specs.Words.{words as Words·words, part};
-ghost use Rattle.notation.specs.Forms.{names, nameOf, kinds, same, find, operand, operands};
+ghost use Rattle.notation.specs.Forms.{names, nameOf, kinds, same, find, operand, with, missing, operands};
 ghost use Rattle.notation.specs.Inner.{NameOf, FormOf, operandsOf};
 use crate::Fault;
 use crate::numerals;
@@ -35,10 +35,10 @@ pub struct Three {
     pub third: u64,
 }
 
-// The numbers of a line, or why it has none.
+// The numbers of a line, or why it has none and the number of the word at fault.
 pub enum Operands {
     Whole(Three),
-    Wrong(Fault),
+    Wrong(Fault, usize),
 }
 
 // How many words stand behind a name, and what each must be.
@@ -233,10 +233,20 @@ fn read_operand(line: &[u8], start: usize, end: usize, kind: u8) -> Value
     numerals::read_number(line, start, end, kind)
 }
 
+// No word of this kind is left.
+fn missing_of(kind: u8) -> Fault
+    ensures { λ r. ⌜ r ≡ missing kind ⌝ }
+{
+    if kind == START {
+        return Fault::StartMissing;
+    }
+    Fault::NumberMissing
+}
+
 // Reads the words that stand behind a name, up to the end of the line.
 pub fn read_operands(line: &[u8], at: usize, code: usize) -> Operands
     requires { ⌜ (at ≤ length (now line)) × (code < 15) ⌝ }
-    ensures { λ r. ⌜ operandsOf code r ≡ operands (getD kinds code []) (Words·words (drop at (now (line .entry)))) ⌝ }
+    ensures { λ r. ⌜ operandsOf code r ≡ with code (operands (getD kinds code []) (Words·words (drop at (now (line .entry))))) ⌝ }
 {
     let form = form_of(code);
     let count = form.count;
@@ -249,7 +259,7 @@ pub fn read_operands(line: &[u8], at: usize, code: usize) -> Operands
         let start = word.start;
         let end = word.end;
         if start == end {
-            return Operands::Wrong(Fault::NumberMissing);
+            return Operands::Wrong(missing_of(kinds[i]), i + 1);
         }
         let value = read_operand(line, start, end, kinds[i]);
         match value {
@@ -259,13 +269,13 @@ pub fn read_operands(line: &[u8], at: usize, code: usize) -> Operands
                 i += 1;
             }
             Value::Wrong(fault) => {
-                return Operands::Wrong(fault);
+                return Operands::Wrong(fault, i + 1);
             }
         }
     }
     let more = words::next_word(line, place);
     if more.start != more.end {
-        return Operands::Wrong(Fault::TooManyWords);
+        return Operands::Wrong(Fault::TooManyWords, count + 1);
     }
     Operands::Whole(Three {
         first: found[0],

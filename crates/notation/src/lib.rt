@@ -2,17 +2,19 @@
 mod forms;
 mod numerals;
 mod putting;
+mod showing;
 mod words;
 
 ghost use mathlib.Core.Path.{_≡_};
 ghost use mathlib.Core.List.{[], _∷_};
 ghost use Prim.Native.Nat.{_≤_, _<_};
-ghost use lib.ListN.{getD};
+ghost use lib.ListN.{length, getD};
 ghost use Rattle.groups.specs.Buffers.{Writes};
 ghost use Rattle.transactions.specs.Calls.{small};
-ghost use Rattle.notation.specs.Words.{words as Words·words, NextWord};
+ghost use Rattle.notation.specs.Words.{words as Words·words};
 ghost use Rattle.notation.specs.Forms.{numbers as Forms·numbers, kinds, sense, senseOf};
 ghost use Rattle.notation.specs.Texts.{textOf, headerText};
+ghost use Rattle.notation.specs.Showing.{shown, markLength, faultByte, NoCall};
 ghost use Rattle.notation.specs.Inner.{counted, Ranged};
 use forms::Operands;
 use forms::Three;
@@ -23,35 +25,55 @@ use sizes::Version;
 use transactions::Call;
 use transactions::Header;
 
-// From a place of a line up to another.
-pub struct Span {
-    pub start: usize,
-    pub end: usize,
-}
-
-// Why a line is neither a header nor a call.
+// Why a line is neither a header nor a call. Out of range: that of a key or value (0), of a coin (1), below 2^32 (2).
 pub enum Fault {
     UnknownWord,
     NumberMissing,
     TooManyWords,
     NotANumber,
-    OutOfRange,
+    OutOfRange(u8),
     StartMissing,
 }
 
-// What a line says: nothing where it has no word or is a remark.
+// What a line says: nothing where it has no word; a fault with the number of its word, from 0.
 pub enum Line {
     Nothing,
     Header(Header),
     Call(Call),
-    Fault(Fault),
+    Fault(Fault, usize),
 }
 
-// The first word of a line, so that an error can show it.
-pub fn first_word(line: &[u8]) -> Span
-    ensures { λ r. ⌜ NextWord (now (line .entry)) 0 r ⌝ }
+// The byte order mark that some editors put in front of a text.
+const MARK: [u8; 3] = [239, 187, 191];
+
+// The length of the byte order mark at the front of a text.
+pub fn mark_length(text: &[u8]) -> usize
+    ensures { λ r. ⌜ (r ≡ markLength (now (text .entry))) × (r ≤ length (now (text .entry))) ⌝ }
 {
-    words::next_word(line, 0)
+    if text.len() < 3 {
+        return 0;
+    }
+    if check::same(&text[..3], &MARK) {
+        return 3;
+    }
+    0
+}
+
+// The byte that a fault leaves behind what was written of a schedule file: no call begins with it.
+pub fn fault_byte() -> u8
+    ensures { λ r. ⌜ (r ≡ faultByte) × NoCall r ⌝ }
+{
+    127
+}
+
+// Writes the word of a line with this number, as an error shows it, at the front of a lent buffer: of length 0 where there are fewer words.
+pub fn show_word(buffer: &mut [u8], line: &[u8], number: usize) -> Wrote
+    ensures { λ r. ⌜ Writes (shown (getD (Words·words (now (line .entry))) number [])) (now (buffer .entry)) (now (buffer .exit)) r ⌝ }
+{
+    let mut text = [0u8; 42];
+    let word = words::word_at(line, number);
+    let end = showing::put_shown(&mut text, line, word.start, word.end);
+    write_text(buffer, &text[..end])
 }
 
 fn narrow(n: u64) -> u32
@@ -91,7 +113,7 @@ fn line_of(code: usize, numbers: Three) -> Line
     }
 }
 
-// Reads a line: words with blanks between them, a line feed being one; numbers in decimal, `-` in front of a negative one, zeros in front allowed.
+// Reads a line: words with blanks between them, a line feed being one, up to a word that begins with `#`; numbers in decimal, `-` in front of a negative one, zeros in front allowed.
 pub fn read_line(line: &[u8]) -> Line
     ensures { λ r. ⌜ senseOf r ≡ sense (Words·words (now (line .entry))) ⌝ }
 {
@@ -101,17 +123,14 @@ pub fn read_line(line: &[u8]) -> Line
     if start == end {
         return Line::Nothing;
     }
-    if line[start] == b'#' {
-        return Line::Nothing;
-    }
     let code = forms::code_of(line, start, end);
     if code == forms::UNKNOWN {
-        return Line::Fault(Fault::UnknownWord);
+        return Line::Fault(Fault::UnknownWord, 0);
     }
     let operands = forms::read_operands(line, end, code);
     match operands {
         Operands::Whole(numbers) => line_of(code, numbers),
-        Operands::Wrong(fault) => Line::Fault(fault),
+        Operands::Wrong(fault, number) => Line::Fault(fault, number),
     }
 }
 

@@ -72,34 +72,34 @@ fn worth_of(line: &[u8], start: usize, end: usize) -> Worth
 }
 
 // A key or value as the schedule file has it.
-fn signed(negative: bool, magnitude: u64) -> Value
-    ensures { λ r. ⌜ r ≡ keyValue (integerOf negative magnitude) ⌝ }
+fn signed(kind: u8, negative: bool, magnitude: u64) -> Value
+    ensures { λ r. ⌜ r ≡ keyValue kind (integerOf negative magnitude) ⌝ }
 {
     if magnitude == 0 {
         return Value::Of(0);
     }
     if negative {
         if 9223372036854775808 < magnitude {
-            return Value::Wrong(Fault::OutOfRange);
+            return Value::Wrong(Fault::OutOfRange(kind));
         }
         return Value::Of((magnitude - 1) * 2 + 1);
     }
     if 9223372036854775807 < magnitude {
-        return Value::Wrong(Fault::OutOfRange);
+        return Value::Wrong(Fault::OutOfRange(kind));
     }
     Value::Of(magnitude * 2)
 }
 
 // A number that is not signed, up to the greatest allowed.
-fn unsigned(negative: bool, magnitude: u64, most: u64) -> Value
-    ensures { λ r. ⌜ r ≡ plainValue most (integerOf negative magnitude) ⌝ }
+fn unsigned(kind: u8, negative: bool, magnitude: u64, most: u64) -> Value
+    ensures { λ r. ⌜ r ≡ plainValue kind most (integerOf negative magnitude) ⌝ }
 {
     if most < magnitude {
-        return Value::Wrong(Fault::OutOfRange);
+        return Value::Wrong(Fault::OutOfRange(kind));
     }
     if negative {
         if 0 < magnitude {
-            return Value::Wrong(Fault::OutOfRange);
+            return Value::Wrong(Fault::OutOfRange(kind));
         }
     }
     Value::Of(magnitude)
@@ -109,12 +109,12 @@ fn in_range(kind: u8, negative: bool, magnitude: u64) -> Value
     ensures { λ r. ⌜ r ≡ valueAs kind (integerOf negative magnitude) ⌝ }
 {
     if kind == KEY {
-        return signed(negative, magnitude);
+        return signed(kind, negative, magnitude);
     }
     if kind == COIN {
-        return unsigned(negative, magnitude, 18446744073709551615);
+        return unsigned(kind, negative, magnitude, 18446744073709551615);
     }
-    unsigned(negative, magnitude, 4294967295)
+    unsigned(kind, negative, magnitude, 4294967295)
 }
 
 // The number whose digits these are, behind a sign or none.
@@ -131,7 +131,7 @@ fn read_digits(line: &[u8], start: usize, end: usize, kind: u8, negative: bool) 
     let found = worth_of(line, start, end);
     match found {
         Worth::Of(magnitude) => in_range(kind, negative, magnitude),
-        Worth::Great => Value::Wrong(Fault::OutOfRange),
+        Worth::Great => Value::Wrong(Fault::OutOfRange(kind)),
     }
 }
 

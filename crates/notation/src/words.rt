@@ -1,10 +1,15 @@
-// The words of a line: what stands between blanks.
+// The words of a line: what stands between blanks, up to a remark.
 
 ghost use mathlib.Core.Path.{_≡_};
 ghost use Prim.Native.Nat.{_+_, _≤_};
 ghost use lib.ListN.{length, drop};
-ghost use Rattle.notation.specs.Words.{blank, runOf, NextWord};
-use crate::Span;
+ghost use Rattle.notation.specs.Words.{blank, runOf, NextWord, WordAt};
+
+// From a place of a line up to another.
+pub struct Span {
+    pub start: usize,
+    pub end: usize,
+}
 
 // A space, a tab, a line feed or a carriage return.
 fn is_blank(byte: u8) -> bool
@@ -37,12 +42,37 @@ fn run_end(line: &[u8], at: usize, blanks: bool) -> usize
     i
 }
 
-// The next word from a place on, empty where there is none.
+// The next word from a place on, empty where there is none or a remark begins.
 pub fn next_word(line: &[u8], at: usize) -> Span
     requires { ⌜ at ≤ length (now line) ⌝ }
     ensures { λ r. ⌜ NextWord (now (line .entry)) at r ⌝ }
 {
     let start = run_end(line, at, true);
     let end = run_end(line, start, false);
+    if start == end {
+        return Span { start, end };
+    }
+    if line[start] == b'#' {
+        return Span { start, end: start };
+    }
     Span { start, end }
+}
+
+// The word with this number, from 0, empty where there are fewer.
+pub fn word_at(line: &[u8], number: usize) -> Span
+    ensures { λ r. ⌜ WordAt (now (line .entry)) number r ⌝ }
+{
+    let mut place = 0;
+    let mut i = 0;
+    while i < number {
+        let word = next_word(line, place);
+        let start = word.start;
+        let end = word.end;
+        if start == end {
+            return Span { start, end };
+        }
+        place = end;
+        i += 1;
+    }
+    next_word(line, place)
 }

@@ -1,5 +1,5 @@
-// Reads a schedule as text from standard input and writes it as a schedule file to standard output. An error is told on standard
-// error with the number of its line, and ends the program; what stands before it has been written.
+// Reads a schedule as text from standard input and writes it as a schedule file to standard output. A fault is told on standard
+// error with its line and its word, and ends the program: behind what was written before it stands a byte at which the file stops.
 ghost use mathlib.Core.Path.{_≡_};
 ghost use Prim.Native.Nat.{_≤_};
 ghost use lib.ListN.{length};
@@ -48,38 +48,127 @@ fn stopped(progress: Progress) -> Progress {
     }
 }
 
+// Stops, with a byte behind what was written at which the schedule file stops; nothing where no header was written.
+fn spoil(progress: Progress) -> Progress {
+    if progress.header {
+        let last = [notation::fault_byte()];
+        if !io::write_all(STDOUT_FILENO, &last) {
+            os::fail(b"standard output");
+        }
+    }
+    stopped(progress)
+}
+
 // Tells what is wrong with the next line, and stops.
 fn refuse(progress: Progress, why: &[u8]) -> Progress {
     say_line(progress.line);
     say(why);
     say(b"\n");
-    stopped(progress)
+    spoil(progress)
 }
 
-// Tells the word that names no call, and stops.
-fn refuse_word(progress: Progress, line: &[u8]) -> Progress {
-    let word = notation::first_word(line);
-    let start = word.start;
-    let end = word.end;
-    say_line(progress.line);
-    say(b"unknown call \"");
-    if start <= end {
-        if end <= line.len() {
-            say(&line[start..end]);
+// Tells the word of a line with this number, where there is one.
+fn say_word(line: &[u8], number: usize) -> bool {
+    let mut buffer = [0u8; 42];
+    let wrote = notation::show_word(&mut buffer, line, number);
+    if let Wrote::Length(n) = wrote {
+        if 0 < n {
+            if n <= buffer.len() {
+                say(b"\"");
+                say(&buffer[..n]);
+                say(b"\"");
+                return true;
+            }
         }
     }
-    say(b"\"\n");
-    stopped(progress)
+    false
 }
 
-fn refuse_fault(progress: Progress, line: &[u8], fault: Fault) -> Progress {
+// Tells the word at fault and what was expected there, and stops.
+fn refuse_word(progress: Progress, line: &[u8], number: usize, why: &[u8]) -> Progress {
+    say_line(progress.line);
+    say_word(line, number);
+    say(why);
+    say(b"\n");
+    spoil(progress)
+}
+
+// Tells what is wrong behind the word in front of that at fault, and stops.
+fn refuse_behind(progress: Progress, line: &[u8], number: usize, why: &[u8]) -> Progress {
+    say_line(progress.line);
+    if say_word(line, number) {
+        say(b": ");
+    }
+    say(why);
+    say(b" behind ");
+    if 0 < number {
+        say_word(line, number - 1);
+    }
+    say(b"\n");
+    spoil(progress)
+}
+
+// Tells the range in which the number at fault is not.
+fn refuse_range(progress: Progress, line: &[u8], number: usize, kind: u8) -> Progress {
+    match kind {
+        0 => refuse_word(
+            progress,
+            line,
+            number,
+            b": a number from -9223372036854775808 to 9223372036854775807 was expected",
+        ),
+        1 => refuse_word(
+            progress,
+            line,
+            number,
+            b": a number from 0 to 18446744073709551615 was expected",
+        ),
+        _ => refuse_word(
+            progress,
+            line,
+            number,
+            b": a number from 0 to 4294967295 was expected",
+        ),
+    }
+}
+
+// Tells that the first word should be that of a header.
+fn refuse_first(progress: Progress, line: &[u8]) -> Progress {
+    refuse_word(
+        progress,
+        line,
+        0,
+        b": a header was expected, as \"capacity 64 start 0\"",
+    )
+}
+
+// Tells that the first word is no call.
+fn refuse_name(progress: Progress, line: &[u8]) -> Progress {
+    if progress.header {
+        refuse_word(
+            progress,
+            line,
+            0,
+            b": no such call (lookup, insert, remove, hand-over, ceil, floor, succ, pred, fast, open, step, close, sweep, tally)",
+        )
+    } else {
+        refuse_first(progress, line)
+    }
+}
+
+// Tells that the word `start` should stand there.
+fn refuse_start(progress: Progress, line: &[u8], number: usize) -> Progress {
+    refuse_behind(progress, line, number, b"the word \"start\" was expected")
+}
+
+fn refuse_fault(progress: Progress, line: &[u8], fault: Fault, number: usize) -> Progress {
     match fault {
-        Fault::UnknownWord => refuse_word(progress, line),
-        Fault::NumberMissing => refuse(progress, b"a number is missing"),
-        Fault::TooManyWords => refuse(progress, b"too many words"),
-        Fault::NotANumber => refuse(progress, b"not a number"),
-        Fault::OutOfRange => refuse(progress, b"a number is out of range"),
-        Fault::StartMissing => refuse(progress, b"the word `start` is missing"),
+        Fault::UnknownWord => refuse_name(progress, line),
+        Fault::NumberMissing => refuse_behind(progress, line, number, b"a number is missing"),
+        Fault::TooManyWords => refuse_behind(progress, line, number, b"nothing more was expected"),
+        Fault::NotANumber => refuse_word(progress, line, number, b": a number was expected"),
+        Fault::OutOfRange(kind) => refuse_range(progress, line, number, kind),
+        Fault::StartMissing => refuse_start(progress, line, number),
     }
 }
 
@@ -120,14 +209,19 @@ fn passed_over(progress: Progress) -> Progress {
     }
 }
 
-// Takes one line.
-fn take_line(progress: Progress, line: &[u8]) -> Progress {
+// Takes a line, without a byte order mark.
+fn take_words(progress: Progress, line: &[u8]) -> Progress {
     let said = notation::read_line(line);
     match said {
         Line::Nothing => passed_over(progress),
         Line::Header(header) => {
             if progress.header {
-                refuse(progress, b"a second header")
+                refuse_word(
+                    progress,
+                    line,
+                    0,
+                    b": a call was expected, since there is a header",
+                )
             } else {
                 write_header(progress, header)
             }
@@ -136,11 +230,20 @@ fn take_line(progress: Progress, line: &[u8]) -> Progress {
             if progress.header {
                 write_call(progress, call)
             } else {
-                refuse(progress, b"not a header, as `capacity 64 start 0`")
+                refuse_first(progress, line)
             }
         }
-        Line::Fault(fault) => refuse_fault(progress, line, fault),
+        Line::Fault(fault, number) => refuse_fault(progress, line, fault, number),
     }
+}
+
+// Takes one line; the first may begin with a byte order mark.
+fn take_line(progress: Progress, line: &[u8]) -> Progress {
+    if progress.line == 1 {
+        let mark = notation::mark_length(line);
+        return take_words(progress, &line[mark..]);
+    }
+    take_words(progress, line)
 }
 
 // Takes one byte: a line feed ends the line that is begun.
@@ -192,7 +295,10 @@ fn take_rest(progress: Progress, line: &[u8]) {
     let last = take_line(progress, line);
     if last.going {
         if !last.header {
-            refuse(progress, b"the header is missing");
+            refuse(
+                progress,
+                b"the text ends without a header, as \"capacity 64 start 0\"",
+            );
         }
     }
 }
@@ -206,6 +312,15 @@ fn stop(begun: Begun) -> Begun
     }
 }
 
+fn spoiled(begun: Begun) -> Begun
+    ensures { λ r. ⌜ r .filled ≡ begun .filled ⌝ }
+{
+    Begun {
+        filled: begun.filled,
+        progress: spoil(begun.progress),
+    }
+}
+
 // Reads once, and takes what was read.
 fn read_once(line: &mut [u8], chunk: &mut [u8], begun: Begun) -> Begun
     requires { ⌜ begun .filled ≤ length (now line) ⌝ }
@@ -215,7 +330,7 @@ fn read_once(line: &mut [u8], chunk: &mut [u8], begun: Begun) -> Begun
     let count = io::count(got, chunk);
     if got < 0 {
         os::fail(b"standard input");
-        return stop(begun);
+        return spoiled(begun);
     }
     if count == 0 {
         let filled = begun.filled;

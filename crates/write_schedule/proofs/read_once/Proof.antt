@@ -18,8 +18,8 @@ slice-aggregate-fail c = search needs
 fail-requires : tie.Need-fail-requires
 fail-requires c κs = search needs
 
-stop-requires : tie.Need-stop-requires
-stop-requires c κs = search needs
+spoiled-requires : tie.Need-spoiled-requires
+spoiled-requires c κs = search needs
 
 same-length : tie.Need-same-length
 same-length c = search needs
@@ -36,8 +36,8 @@ slice-aggregate-take-rest c = sym (length-take-le _ _ (c .before .before .before
 take-rest-requires : tie.Need-take-rest-requires
 take-rest-requires c κs = search needs
 
-stop-requires-2 : tie.Need-stop-requires-2
-stop-requires-2 c κs = search needs
+stop-requires : tie.Need-stop-requires
+stop-requires c κs = search needs
 
 same-length-2 : tie.Need-same-length-2
 same-length-2 c = search needs
@@ -74,13 +74,13 @@ read-once-spec =
     count-requires
     slice-aggregate-fail
     fail-requires
-    stop-requires
+    spoiled-requires
     same-length
     returns
     slice-reshare-prefix-take-rest
     slice-aggregate-take-rest
     take-rest-requires
-    stop-requires-2
+    stop-requires
     same-length-2
     same-length-3
     returns-2
