@@ -1,7 +1,8 @@
 /* Hostile memory from C: hostile ROUNDS. Each part of the tables and each buffer lies right before or right
  * behind a page that may not be touched; cells are damaged, lengths are wrong, bytes are anything. No call may
  * touch what it was not lent, a refusal may change nothing, sound tables may not be refused with 1 and must be
- * sound afterwards, and wrong lengths must be refused. Ends with 1 and a line on the first fault. */
+ * sound afterwards, and wrong lengths must be refused. Calls that only read find memory that cannot be written.
+ * Ends with 1 and a line on the first fault. */
 #define _DEFAULT_SOURCE
 #include <stdio.h>
 #include <stdlib.h>
@@ -282,6 +283,29 @@ static void try_call(const struct tables *sound, unsigned long round) {
     else made_sound++;
 }
 
+/* ---- Calls that only read, on memory that cannot be written. */
+
+static void protect_parts(int access) {
+    for (int at = 0; at < PARTS; at++)
+        if (mprotect(blocks[at].pages, blocks[at].size, access) != 0) fault("no protection", 0);
+}
+
+static void try_reading(const struct tables *sound, unsigned long round) {
+    const struct lopresnik_map map = lend_tables(sound, PARTS);
+    int64_t out_keys[PLACES], out_values[PLACES], key = (int64_t)below(KEYS);
+    protect_parts(PROT_READ);
+    bool has_key = lopresnik_map_lookup(&map, key).refusal == LOPRESNIK_DONE;
+    bool is_near = (lopresnik_map_ceil(&map, key).first == key) == has_key &&
+                   (lopresnik_map_floor(&map, key).first == key) == has_key &&
+                   lopresnik_map_succ(&map, key).first != key && lopresnik_map_pred(&map, key).first != key;
+    bool is_range = lopresnik_map_fast_range(&map, key, key, out_keys, out_values, PLACES).first == has_key;
+    bool is_sound = lopresnik_map_sound(&map) && lopresnik_map_tally(&map).refusal == LOPRESNIK_DONE;
+    protect_parts(PROT_READ | PROT_WRITE);
+    /* Where there is no key near, the answer's number is 0. */
+    if (key != 0 && !is_near) fault("a nearest key is not as the lookup", round);
+    if (!is_range || !is_sound) fault("reading answers another", round);
+}
+
 /* ---- Set-up, and the writers. */
 
 static void try_set_up(const struct tables *any, unsigned long round) {
@@ -370,6 +394,7 @@ int main(int count, char **words) {
     for (unsigned long round = 0; round < rounds; round++) {
         use(&map);
         try_call(&tables, round);
+        try_reading(&tables, round);
         try_set_up(&tables, round);
         try_write(&tables, round);
     }

@@ -76,8 +76,8 @@ pub fn lines() -> String {
 
 // ---- Sound tables to begin with.
 
-/// Present, pending, held, due and free nodes, and three open ranges: one rests on a node, one is finished,
-/// one has not been stepped. What no call has stored is 7.
+/// Present, pending, held, due and free nodes, and three open ranges: one has been stepped, one has nothing
+/// before it any more, one has not been stepped. What no call has stored is 7.
 fn build() -> Tables {
     let mut tables = Tables::sized(CAPACITY).expect("a capacity of the table");
     tables.rows.fill(7);
@@ -87,18 +87,18 @@ fn build() -> Tables {
     turn_queue(&mut map, 61);
     insert(&mut map, 0..24);
     remove(&mut map, 0..2, Some(HandedOver::Freed));
-    let first = open(&mut map, 4);
+    let first = open(&mut map, 300, 4);
     insert(&mut map, 24..28);
     remove(&mut map, 2..5, Some(HandedOver::Held));
-    open(&mut map, 2);
+    open(&mut map, 300, 2);
     remove(&mut map, 5..8, Some(HandedOver::Held));
     remove(&mut map, 8..10, None);
     assert_eq!(map.close_range(first), Ok(3), "the nodes of its list are due");
     map.sweep().expect("the tables are sound");
-    open(&mut map, 64);
+    open(&mut map, i64::MAX, 64);
     remove(&mut map, 10..12, Some(HandedOver::Held));
     insert(&mut map, 28..36);
-    open(&mut map, 0);
+    open(&mut map, 300, 0);
     remove(&mut map, 13..14, None);
     insert(&mut map, 8..9);
     check_kinds(&map);
@@ -110,7 +110,7 @@ fn build() -> Tables {
 fn turn_queue(map: &mut Map, times: usize) {
     for _ in 0..times {
         insert(map, 0..1);
-        let range = open(map, 0);
+        let range = open(map, 300, 0);
         remove(map, 0..1, Some(HandedOver::Held));
         assert_eq!(map.close_range(range), Ok(1));
         assert!(map.sweep().expect("the tables are sound").freed);
@@ -135,8 +135,8 @@ fn remove(map: &mut Map, numbers: std::ops::Range<usize>, becomes: Option<Handed
 }
 
 /// A range is opened, and stepped where there is room.
-fn open(map: &mut Map, room: usize) -> Version {
-    let version = map.open_range(-200, 300).expect("a ticket is free");
+fn open(map: &mut Map, high: i64, room: usize) -> Version {
+    let version = map.open_range(-200, high).expect("a ticket is free");
     if room > 0 {
         let (mut keys, mut values) = (vec![0; room], vec![0; room]);
         map.step_range(version, &mut keys, &mut values).expect("the range is open");
