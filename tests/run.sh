@@ -1,7 +1,7 @@
 #!/usr/bin/env bash
 # Builds the second program, runs its tests, sees what a corpus of schedule files reaches and compares
-# the program `schedule` with the second program over that corpus (CORPUS says how many files), then the
-# verdicts of the program `damage` on damaged tables; then runs tests/schedule.sh and tests/hosts.sh, and
+# the program `schedule` with the second program over that corpus (CORPUS says how many files); then runs
+# tests/schedule.sh and tests/hosts.sh, compares the verdicts of the soundness test on damaged tables, and
 # sees that the walks that a program writes are as it writes them. Needs the built programs (rt check).
 # The last line is `N passed, M failed`; a step that breaks counts as failed. Exits with 0 exactly when
 # M is 0.
@@ -99,9 +99,10 @@ compare_schedule() {
   [ "$differing" -eq 0 ] && passed=$((passed + 1))
 }
 
-# Every cell of sound tables is damaged in turn: both programs must judge each the same.
+# Every cell of sound tables is damaged in turn: the library, called by the program of tests/hosts, and the
+# second program must judge each the same.
 compare_verdicts() {
-  if printf a | timeout "$most_seconds" tools/run damage >"$work/verdicts.txt" &&
+  if timeout "$most_seconds" target/hosts/release/hosts verdicts >"$work/verdicts.txt" &&
     "$programs/verdicts" <"$work/verdicts.txt"; then
     passed=$((passed + 1))
   else
@@ -142,11 +143,11 @@ if make_corpus; then
 else
   fail "the corpus could not be written"
 fi
-compare_verdicts
 check_walks tools/lent/lent.py tickets_open
 check_walks tools/lent/lent.py lent
 check_walks tools/lent/export.py lopresnik
 include tests/schedule.sh
 include tests/text.sh
 include env -u CARGO_TARGET_DIR tests/hosts.sh
+compare_verdicts
 finish

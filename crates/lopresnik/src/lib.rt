@@ -1,4 +1,6 @@
 // The functions of the static library: each lends everything on to the lent form of its call, and answers in plain numbers.
+mod writing;
+
 use batch::End;
 use lent::Run;
 use model::Closed;
@@ -29,6 +31,10 @@ ghost use Rattle.calls.specs.Entries.{with};
 ghost use Rattle.batch.specs.Cells.{cellsOf};
 ghost use Rattle.lent.specs.Forms.{SetsUp, Looks, Nears, Tallies, Inserts, Removes, HandsOver, Sweeps, Opens, Closes, Steps, Ranges, Runs, rooms};
 ghost use Rattle.lopresnik.specs.Exports.{Gives, refusal, ending, ran};
+ghost use Rattle.lopresnik.specs.Written.{interface};
+
+// The version of the interface: it rises when a function, a struct or the layout of the tables changes.
+const INTERFACE: u32 = 1;
 
 // An answer as the batch lays it down: the call's code, 0 or the refusal, and up to three numbers.
 #[repr(C)]
@@ -172,6 +178,14 @@ fn run_numbers(run: Run) -> Ran
         calls: run.calls,
         pairs: run.pairs,
     }
+}
+
+// The version of the interface, so that a host can see that its declarations are of the same one.
+#[no_mangle]
+pub extern "C" fn lopresnik_version() -> u32
+    ensures { λ r. ⌜ r ≡ interface ⌝ }
+{
+    INTERFACE
 }
 
 // Set-up: an empty map with no open range.

@@ -2,6 +2,9 @@
 
 use crate::tables::{Coordinator, Ticket};
 
+/// The version of the interface that these declarations are of.
+const VERSION: u32 = 1;
+
 /// The call's code, 0 or the number of its refusal, then its numbers.
 #[repr(C)]
 #[derive(Clone, Copy, Debug, PartialEq, Eq)]
@@ -13,6 +16,7 @@ pub struct Answer {
     pub third: i64,
 }
 
+/// Why a list ended, the offset of a stop or the number of a refusal, then what was used.
 #[repr(C)]
 #[derive(Clone, Copy, Debug, PartialEq, Eq)]
 pub struct Ran {
@@ -21,6 +25,25 @@ pub struct Ran {
     pub used: usize,
     pub calls: usize,
     pub pairs: usize,
+}
+
+extern "C" {
+    fn lopresnik_version() -> u32;
+}
+
+/// Lets nobody call an archive whose functions are not those declared here.
+///
+/// # Panics
+///
+/// Where the archive that was linked has another version.
+pub fn check_version() {
+    // SAFETY: the function takes nothing, answers a number, and is the same in every version.
+    let version = unsafe { lopresnik_version() };
+    assert!(
+        version == VERSION,
+        "liblopresnik.a has version {version} of the interface, this wrapper version {VERSION}: \
+         take both from the same commit"
+    );
 }
 
 /// Declares functions that all take the tables first: to change (`*mut`) or only to read (`*const`).

@@ -15,7 +15,7 @@
 //! What is proved is the library, for any contents of the tables (docs/STATEMENTS.md); this wrapper
 //! is not. It is small, and what it must keep is said at each `unsafe`.
 
-#![deny(missing_debug_implementations)]
+#![deny(missing_docs, missing_debug_implementations)]
 
 mod archive;
 mod coins;

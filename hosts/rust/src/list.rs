@@ -18,7 +18,8 @@ pub enum End {
     Stop(usize),
     /// The bytes end within a call, and more may follow: go on with the rest.
     More,
-    /// The room might not suffice for the next call: go on with the rest.
+    /// The room might not suffice for the next call: go on with the rest. Where nothing was used, the
+    /// room can never suffice.
     Full,
     /// Nothing was done.
     Refused(Refusal),
@@ -66,59 +67,72 @@ impl List {
         self.calls = 0;
     }
 
+    /// Adds a lookup: the value of the key.
     pub fn lookup(&mut self, key: i64) -> &mut List {
         self.call(0).signed(key)
     }
 
+    /// Adds an insert. Give each a fresh random coin: see [`Map::insert_with_coin`].
     pub fn insert(&mut self, key: i64, value: i64, coin: u64) -> &mut List {
         self.call(1).signed(key).signed(value).number(coin)
     }
 
+    /// Adds a remove, which answers the node that is pending then.
     pub fn remove(&mut self, key: i64) -> &mut List {
         self.call(2).signed(key)
     }
 
+    /// Adds a hand over of a pending node.
     pub fn hand_over(&mut self, node: Node) -> &mut List {
         self.call(3).number(u64::from(node.0))
     }
 
+    /// Adds a ceil: the nearest present key at or above.
     pub fn ceil(&mut self, key: i64) -> &mut List {
         self.call(4).signed(key)
     }
 
+    /// Adds a floor: the nearest present key at or below.
     pub fn floor(&mut self, key: i64) -> &mut List {
         self.call(5).signed(key)
     }
 
+    /// Adds a succ: the nearest present key above.
     pub fn succ(&mut self, key: i64) -> &mut List {
         self.call(6).signed(key)
     }
 
+    /// Adds a pred: the nearest present key below.
     pub fn pred(&mut self, key: i64) -> &mut List {
         self.call(7).signed(key)
     }
 
+    /// Adds a fast range: all pairs within the bounds, at most 64.
     pub fn fast_range(&mut self, low: i64, high: i64) -> &mut List {
         self.call(8).signed(low).signed(high)
     }
 
+    /// Adds the opening of a range, which answers its version.
     pub fn open_range(&mut self, low: i64, high: i64) -> &mut List {
         self.call(9).signed(low).signed(high)
     }
 
-    /// A step with this room; within a list a room above 64 counts as 64.
+    /// Adds a step with this room; within a list a room above 64 counts as 64.
     pub fn step_range(&mut self, version: Version, room: u32) -> &mut List {
         self.call(10).number(u64::from(version.0)).number(u64::from(room))
     }
 
+    /// Adds the closing of an open range.
     pub fn close_range(&mut self, version: Version) -> &mut List {
         self.call(11).number(u64::from(version.0))
     }
 
+    /// Adds a sweep: the first due node is freed, if any.
     pub fn sweep(&mut self) -> &mut List {
         self.call(12)
     }
 
+    /// Adds a tally: present, held and free nodes.
     pub fn tally(&mut self) -> &mut List {
         self.call(13)
     }

@@ -117,13 +117,21 @@ macro_rules! read {
 }
 
 /// A call that changes nothing: tickets and coordinator are lent as copies, since the archive's
-/// functions take all of them to change.
+/// functions take all of them to change. Another number of tickets than sixteen is refused, and so is
+/// none at all.
 macro_rules! ask {
     ($map:expr, $function:ident $(, $argument:expr)*) => {{
         let tables = &$map.tables;
-        let mut tickets = tables.tickets.clone();
+        let mut copies = [Ticket::default(); TICKETS];
+        let tickets = match tables.tickets.len() {
+            TICKETS => {
+                copies.copy_from_slice(&tables.tickets);
+                &mut copies[..]
+            }
+            _ => &mut [],
+        };
         let mut coordinator = tables.coordinator;
-        read!(tables, &mut tickets, &mut coordinator, $function $(, $argument)*)
+        read!(tables, tickets, &mut coordinator, $function $(, $argument)*)
     }};
 }
 
@@ -147,8 +155,10 @@ fn made(answer: Answer) -> Result<Answer, Refusal> {
     }
 }
 
+/// The refusal of a number that is not 0.
 fn refusal_of(number: usize) -> Refusal {
-    Refusal::of_number(number as u32).expect("a refusal is one of document 01's numbers")
+    let number = number as u32;
+    Refusal::of_number(number).unwrap_or(Refusal::Unknown(number))
 }
 
 /// The calls, one by one.
@@ -166,7 +176,12 @@ impl Map {
     }
 
     /// Sets up tables that the caller has: an empty map, every node free.
+    ///
+    /// # Panics
+    ///
+    /// Where the archive that was linked has another version of the interface than this wrapper.
     pub fn set_up(tables: &mut Tables, capacity: u32, start: Version) -> Result<(), Refusal> {
+        archive::check_version();
         match change!(tables, lopresnik_set_up, capacity, start.0) {
             0 => Ok(()),
             number => Err(refusal_of(number as usize)),
@@ -174,7 +189,12 @@ impl Map {
     }
 
     /// The map over tables that the caller has. They may be anything: every call tests them.
+    ///
+    /// # Panics
+    ///
+    /// Where the archive that was linked has another version of the interface than this wrapper.
     pub fn over(tables: Tables) -> Map {
+        archive::check_version();
         Map { tables, coins: Coins::new() }
     }
 
@@ -324,6 +344,9 @@ impl Map {
     /// sound. The bytes are those of a schedule file without its header ([`List`] writes them);
     /// `more` says that others may follow. Each call takes five cells of `answers` and needs 64 free
     /// places in both pair buffers. A refused call does not end the list.
+    ///
+    /// [`End::Full`] with nothing used means that the room can never suffice: lend five cells and 64
+    /// places at least.
     pub fn run(
         &mut self,
         bytes: &[u8],
@@ -351,12 +374,15 @@ impl Map {
             1 => End::Stop(ran.at),
             2 => End::More,
             3 => End::Full,
-            _ => End::Refused(refusal_of(ran.at)),
+            4 => End::Refused(refusal_of(ran.at)),
+            unknown => End::Refused(Refusal::Unknown(unknown)),
         };
         Ran { end, used: ran.used, calls: ran.calls, pairs: ran.pairs }
     }
 
-    /// Makes every call of the list, with room of its own.
+    /// Makes every call of the list, with room of its own, which grows as far as the answers need: so
+    /// the list never ends as [`End::Full`] with nothing used, where the room can never suffice
+    /// ([`Map::run`] has the caller's room, and may).
     ///
     /// ```
     /// use lopresnik::{List, Map};

@@ -4,38 +4,40 @@ use std::fmt;
 
 /// Why a call was refused, by the number of document 01. A refused call has changed nothing.
 #[derive(Clone, Copy, Debug, PartialEq, Eq, Hash)]
-#[repr(u32)]
+#[non_exhaustive]
 pub enum Refusal {
     /// A part of the tables has the wrong length, or the tables are not sound.
-    NotSound = 1,
+    NotSound,
     /// Set-up: the capacity is not in the table.
-    NoSuchCapacity = 2,
+    NoSuchCapacity,
     /// Insert: the key is present.
-    KeyPresent = 3,
+    KeyPresent,
     /// Lookup, remove: the key is absent.
-    KeyAbsent = 4,
+    KeyAbsent,
     /// Insert: no node is free.
-    NoFreeNode = 5,
+    NoFreeNode,
     /// Fast range, open: the lower bound is above the upper one.
-    BoundsReversed = 6,
+    BoundsReversed,
     /// Fast range: more than 64 present pairs are within the bounds.
-    TooManyPairs = 7,
+    TooManyPairs,
     /// Fast range: a pair buffer has fewer places than there are pairs. Step: it has none.
-    TooFewPlaces = 8,
+    TooFewPlaces,
     /// Open: sixteen ranges are open.
-    AllTicketsOpen = 9,
+    AllTicketsOpen,
     /// Open: the version counter is at its last number.
-    LastVersion = 10,
+    LastVersion,
     /// Step, close: no open range has that version.
-    NoSuchRange = 11,
+    NoSuchRange,
     /// Hand over: the node is not pending, or there is no such node.
-    NodeNotPending = 12,
+    NodeNotPending,
     /// Ceil, floor, succ, pred: no present key is there.
-    NoPresentKey = 13,
+    NoPresentKey,
+    /// A number that this wrapper does not know.
+    Unknown(u32),
 }
 
 impl Refusal {
-    /// Every refusal, in the order of the numbers.
+    /// Every refusal that this wrapper knows, in the order of the numbers.
     pub const ALL: [Refusal; 13] = [
         Refusal::NotSound,
         Refusal::NoSuchCapacity,
@@ -54,12 +56,32 @@ impl Refusal {
 
     /// The refusal's number in document 01.
     pub fn number(self) -> u32 {
-        self as u32
+        match self {
+            Refusal::NotSound => 1,
+            Refusal::NoSuchCapacity => 2,
+            Refusal::KeyPresent => 3,
+            Refusal::KeyAbsent => 4,
+            Refusal::NoFreeNode => 5,
+            Refusal::BoundsReversed => 6,
+            Refusal::TooManyPairs => 7,
+            Refusal::TooFewPlaces => 8,
+            Refusal::AllTicketsOpen => 9,
+            Refusal::LastVersion => 10,
+            Refusal::NoSuchRange => 11,
+            Refusal::NodeNotPending => 12,
+            Refusal::NoPresentKey => 13,
+            Refusal::Unknown(number) => number,
+        }
     }
 
-    /// The refusal of that number, if there is one.
+    /// The refusal of that number, [`Refusal::Unknown`] where this wrapper does not know it; none for 0,
+    /// which is no refusal.
     pub fn of_number(number: u32) -> Option<Refusal> {
-        Refusal::ALL.get((number as usize).checked_sub(1)?).copied()
+        let known = Refusal::ALL.into_iter().find(|refusal| refusal.number() == number);
+        match number {
+            0 => None,
+            _ => Some(known.unwrap_or(Refusal::Unknown(number))),
+        }
     }
 }
 
@@ -79,6 +101,7 @@ impl fmt::Display for Refusal {
             Refusal::NoSuchRange => "no open range has that version",
             Refusal::NodeNotPending => "the node is not pending, or there is no such node",
             Refusal::NoPresentKey => "no present key is there",
+            Refusal::Unknown(_) => "a reason that this wrapper does not know",
         };
         write!(to, "{meaning} (refusal {})", self.number())
     }

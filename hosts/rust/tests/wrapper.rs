@@ -10,7 +10,10 @@ fn refusals_have_the_numbers_of_the_document() {
         assert!(refusal.to_string().ends_with(&format!("(refusal {})", index + 1)));
     }
     assert_eq!(Refusal::of_number(0), None);
-    assert_eq!(Refusal::of_number(14), None);
+    for unknown in [14, 99, u32::MAX] {
+        let refusal = Refusal::of_number(unknown).expect("a refusal, if an unknown one");
+        assert_eq!((refusal, refusal.number()), (Refusal::Unknown(unknown), unknown));
+    }
 }
 
 #[test]

@@ -5,6 +5,7 @@
 //!     hosts ranges ROUNDS     long ranges while others change the map, against clones of a BTreeMap
 //!     hosts bytes ROUNDS      lists that are cut, malformed, or have too little room
 //!     hosts damage ROUNDS     damaged tables: every call refuses, or is right
+//!     hosts verdicts          every cell damaged in turn, as lines for the second program's `verdicts`
 //!     hosts stack CALLS       as `single` and `lists`, on the stack that docs/OPERATOR.md promises to suffice
 
 mod bytes;
@@ -15,10 +16,15 @@ mod model;
 mod random;
 mod ranges;
 mod single;
+mod verdicts;
 
 fn main() {
     let words: Vec<String> = std::env::args().skip(1).collect();
-    let [test, count] = &words[..] else { panic!("usage: hosts TEST COUNT") };
+    let (test, count) = match &words[..] {
+        [test] if test == "verdicts" => return print!("{}", verdicts::lines()),
+        [test, count] => (test, count),
+        _ => panic!("usage: hosts TEST COUNT"),
+    };
     let count: usize = count.parse().expect("a number");
     let done = match test.as_str() {
         "lists" => lists::run(count),

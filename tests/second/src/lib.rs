@@ -3,7 +3,7 @@
 //! `map` is the map with its ranges in plain lists, `number`, `transaction` and `reader` are the
 //! schedule file, `program` turns a file into lines. `generator` writes files to try the program
 //! on, and `coverage` tells which cases a set of files reaches. `tables` is a check of its own
-//! whether raw tables are sound, and `verdicts` holds it against the verdicts of `damage`.
+//! whether raw tables are sound, and `verdicts` holds it against the verdicts of the library.
 
 pub mod coverage;
 pub mod generator;

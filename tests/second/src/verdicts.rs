@@ -1,4 +1,4 @@
-//! Reads what the program `damage` writes, and compares its verdicts with those of `tables`.
+//! Reads what `hosts verdicts` of tests/hosts writes, and compares its verdicts with those of `tables`.
 //!
 //! The tables come first, a line a part, with the verdict on them. Then a line for each cell: its
 //! part, its number, and a digit for each way of damage. Then the tables again, and `end`.
@@ -162,7 +162,7 @@ fn read_cell<'a>(line: &'a str, tables: &Tables) -> Result<(&'a str, usize, &'a 
     Ok((part, cell, verdicts.as_bytes()))
 }
 
-/// Compares every verdict of what `damage` wrote.
+/// Compares every verdict of what `hosts verdicts` wrote.
 pub fn compare(text: &str) -> Result<Comparison, String> {
     let lines: Vec<&str> = text.lines().collect();
     if lines.len() <= 2 * TABLE_LINES || lines.last() != Some(&"end") {
@@ -196,7 +196,7 @@ pub fn compare(text: &str) -> Result<Comparison, String> {
                 _ => found.damaged += 1,
             }
             if checked.is_ok() != (verdict == b'1') {
-                let told = format!("{part} {cell} way {way}: damage says {}", verdict == b'1');
+                let told = format!("{part} {cell} way {way}: the library says {}", verdict == b'1');
                 found.differences.push(format!("{told}, this check {checked:?}"));
             }
         }

@@ -192,7 +192,7 @@ fn ranges() {
     broken_by(Condition::Rest, |t| set(t, 1, INSERTED, 6));
 }
 
-/// What `damage` writes of the tables, with one line of a cell between.
+/// What `hosts verdicts` writes of the tables, with one line of a cell between.
 fn written(tables: &Tables, cell: &str) -> String {
     fn line<T: ToString>(name: &str, cells: &[T]) -> String {
         let words: Vec<String> = cells.iter().map(|cell| cell.to_string()).collect();

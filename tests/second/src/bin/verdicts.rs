@@ -1,4 +1,4 @@
-//! `verdicts < OUTPUT`: compares the verdicts that the program `damage` wrote, over every cell,
+//! `verdicts < OUTPUT`: compares the verdicts that `hosts verdicts` wrote, over every cell,
 //! with those of a check of its own. Exits with 1 on a difference and on any other text.
 
 use std::io::{self, Read};

@@ -1,0 +1,6 @@
+/* See stddef.h. */
+#pragma once
+#include <stddef.h>
+void *memcpy(void *to, const void *from, size_t size);
+void *memset(void *to, int byte, size_t size);
+int memcmp(const void *one, const void *other, size_t size);
