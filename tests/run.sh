@@ -1,7 +1,7 @@
 #!/usr/bin/env bash
 # Builds the second program, runs its tests, sees what a corpus of schedule files reaches and compares
 # the program `schedule` with the second program over that corpus (CORPUS says how many files), then the
-# verdicts of the program `damage` on damaged tables; then runs tests/schedule.sh and tests/hosts.sh, and
+# verdicts of the program `damage` on damaged tables; then runs tests/schedule.sh, tests/users.sh and tests/hosts.sh, and
 # sees that the walks that a program writes are as it writes them. Needs the built programs (rt check).
 # The last line is `N passed, M failed`; a step that breaks counts as failed. Exits with 0 exactly when
 # M is 0.
@@ -147,5 +147,6 @@ check_walks tools/lent/lent.py tickets_open
 check_walks tools/lent/lent.py lent
 check_walks tools/lent/export.py lopresnik
 include tests/schedule.sh
+include tests/users.sh
 include env -u CARGO_TARGET_DIR tests/hosts.sh
 finish
