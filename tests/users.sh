@@ -45,6 +45,18 @@ script() {
   { echo '#!/bin/sh' && cat; } >"$1" && chmod +x "$1"
 }
 
+# Sends a signal to a process that writes the ids of what it started to $work/pid: all of them end, it with the signal's status.
+end_by() {
+  local signal=$1 runner=$2 status=0 each
+  in_time [ -s "$work/pid" ] && kill -s "$signal" "$runner" && in_time gone "$runner" || status=1
+  for each in $(cat "$work/pid"); do
+    gone "$each" || { kill -s KILL "$each" && status=1; }
+  done
+  gone "$runner" || kill -s KILL "$runner"
+  wait "$runner"
+  [ $? -eq $((128 + $(kill -l "$signal"))) ] && [ "$status" -eq 0 ]
+}
+
 # Runs a command with the signal INT as it is in a terminal: what a script starts in the background ignores it.
 attended() {
   exec python3 -c 'import os, signal, sys; signal.signal(signal.SIGINT, signal.SIG_DFL); os.execvp(sys.argv[1], sys.argv[1:])' "$@"
@@ -134,13 +146,9 @@ ends_by_signal() {
 }
 
 passes_signal_on() {
-  local runner
   rm -f "$work/pid"
   attended env RATTLE_HOME="$work/kit" "$root/tools/run" wait "$work/pid" 2>"$work/said" &
-  runner=$!
-  in_time [ -s "$work/pid" ] && kill -s "$1" "$runner" || return
-  wait "$runner"
-  [ $? -eq $((128 + $(kill -l "$1"))) ] && gone "$(cat "$work/pid")"
+  end_by "$1" $!
 }
 
 ends_with_its_reader() {
@@ -304,8 +312,8 @@ example_tells() {
 
 # On a terminal one line is written anew, and is gone before the program's lines come.
 example_on_terminal() {
-  PATH=$work/stubs:$real_path TMPDIR=$work/tmp RATTLE_HOME=$work/kit RT_SAYS=$work/all_new python3 -c 'import pty, sys; sys.exit(pty.spawn(sys.argv[1:]) != 0)' \
-    "$root/example" </dev/null >"$work/wrote" || return
+  PATH=$work/stubs:$real_path TMPDIR=$work/tmp RATTLE_HOME=$work/kit RT_SAYS=$work/all_new python3 -c 'import pty, sys; pty.spawn(sys.argv[1:])' \
+    "$root/example" </dev/null >"$work/wrote"
   tr '\r' '\n' <"$work/wrote" | grep -q 'example: proved schedule: 20 of 20 crates' &&
     tail -n +2 "$work/wrote" | tr -d '\r' | cmp - <(tail -n +2 examples/listing/lines.txt)
 }
@@ -327,13 +335,9 @@ example_without_rt() {
 
 # Ended from outside: rt and its child are gone, and so are all temporary files.
 example_ends() {
-  local runner rt child
   rm -f "$work/pid"
   PATH=$work/stubs:$real_path TMPDIR=$work/tmp RATTLE_HOME=$work/kit RT_SAYS=$work/all_new RT_CHILD=$work/pid attended "$root/example" >"$work/wrote" 2>"$work/said" &
-  runner=$!
-  in_time [ -s "$work/pid" ] && kill -s "$1" "$runner" || return
-  wait "$runner"
-  [ $? -eq $((128 + $(kill -l "$1"))) ] && read -r rt child <"$work/pid" && gone "$rt" && gone "$child" && nothing_left
+  end_by "$1" $! && nothing_left
 }
 
 # With everything proved the real one proves nothing, says nothing and shows the lines.
