@@ -1,7 +1,8 @@
 #!/usr/bin/env bash
 # Builds the second program, runs its tests, sees what a corpus of schedule files reaches and compares
 # the program `schedule` with the second program over that corpus (CORPUS says how many files); then runs
-# tests/schedule.sh and tests/hosts.sh, compares the verdicts of the soundness test on damaged tables, and
+# tests/schedule.sh, tests/text.sh, tests/users.sh and tests/hosts.sh, compares the verdicts of the soundness
+# test on damaged tables, and
 # sees that the walks that a program writes are as it writes them. Needs the built programs (rt check).
 # The last line is `N passed, M failed`; a step that breaks counts as failed. Exits with 0 exactly when
 # M is 0.
@@ -148,6 +149,7 @@ check_walks tools/lent/lent.py lent
 check_walks tools/lent/export.py lopresnik
 include tests/schedule.sh
 include tests/text.sh
+include tests/users.sh
 include env -u CARGO_TARGET_DIR tests/hosts.sh
 compare_verdicts
 finish

@@ -58,10 +58,10 @@ memory_is_constant() {
     [ "$large" -le $((small + 1024)) ]
 }
 
-# A program that cannot go on ends and says so on standard error (docs/DECISIONS.md: its status is 0 all the same).
+# A program that cannot go on ends and says so on standard error, by which tools/run ends with 1.
 says_so() {
   local word=$1 status=$2
-  [ "$status" -eq 0 ] && grep -q "^schedule: $word.* failed$" "$work/said"
+  [ "$status" -eq 1 ] && grep -q "^schedule: $word.* failed$" "$work/said"
 }
 
 unreadable_input() {
