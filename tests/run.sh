@@ -146,6 +146,7 @@ compare_verdicts
 check_walks tools/lent/lent.py tickets_open
 check_walks tools/lent/lent.py lent
 check_walks tools/lent/export.py lopresnik
+include python3 tests/statements.py
 include tests/schedule.sh
 include env -u CARGO_TARGET_DIR tests/hosts.sh
 finish
