@@ -147,6 +147,7 @@ fi
 check_walks tools/lent/lent.py tickets_open
 check_walks tools/lent/lent.py lent
 check_walks tools/lent/export.py lopresnik
+include python3 tests/statements.py
 include tests/schedule.sh
 include tests/text.sh
 include tests/users.sh

@@ -1,4 +1,4 @@
-//! Where reading stops and what a refused set-up prints: the readings B1 to B14 with their bytes,
+//! Where reading stops and what a refused set-up prints: the rules of docs/DECISIONS.md 1 to 5 with their bytes,
 //! and damage of every cause at every position.
 
 mod support;
