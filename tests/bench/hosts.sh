@@ -3,7 +3,7 @@
 # skip hash, BTreeMap, HashMap, std::map and LMDB, and of the soundness test against a plain pass, as
 # tables of one run; then counts of instructions by callgrind. Installs LMDB and valgrind by apt-get
 # where they are missing; where LMDB cannot be had, the tables say so. LOPRESNIK_ARCHIVE names a folder
-# with a ready archive. It takes two and a half minutes of processor time.
+# with a ready archive. It takes a few minutes of processor time.
 set -eu
 cd "$(dirname "$0")/../.."
 

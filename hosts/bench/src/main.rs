@@ -51,8 +51,9 @@ fn main() {
             print_workloads();
             print_soundness();
         }
+        ["soundness"] => print_soundness(),
         ["count", subject, mix, runs] => count(subject, mix, runs.parse().expect("a number")),
-        _ => panic!("usage: bench [short | count SUBJECT WORKLOAD RUNS]"),
+        _ => panic!("usage: bench [short | soundness | count SUBJECT WORKLOAD RUNS]"),
     }
 }
 
@@ -266,26 +267,31 @@ fn print_soundness() {
     print_table(&lines, &["test", "plain pass", "ratio"], |line, name| line.of(name), 2);
 }
 
+/// The batch and a BTreeMap beside each other.
+fn batch_and_tree<'work>(work: &'work Work, calls: &'work Calls) -> Vec<Box<dyn Subject + 'work>> {
+    vec![
+        Box::new(Batch::new(work, calls, false)),
+        Box::new(Directly::<Tree>::new("BTreeMap", work)),
+    ]
+}
+
 /// Cost an operation by the capacity.
 fn print_growth() {
-    let capacities = [64, 128, 256, 512, 1024, 2048, 4096];
-    for mix in [MIXES[0], MIXES[1]] {
-        let line = |&capacity: &usize| {
-            let work = Work::mixed(capacity, false, mix, LISTS, LENGTH);
+    const NAMES: [[&str; 2]; 2] =
+        [["lookups: batch", "lookups: BTreeMap"], ["updates: batch", "updates: BTreeMap"]];
+    let line = |&capacity: &usize| {
+        let of_mix = |(mix, names): (&Mix, [&'static str; 2])| {
+            let work = Work::mixed(capacity, false, *mix, LISTS, LENGTH);
             let calls = Calls::of_work(&work);
-            let few = Work::mixed(capacity, false, mix, 1, SINGLE_LENGTH);
-            let few_calls = Calls::of_work(&few);
-            let mut subjects = subjects_of(&work, &calls, false);
-            let times = measure(&work, &mut subjects, 9);
-            let mut measured: Vec<_> = subjects.iter().map(|s| s.name()).zip(times).collect();
-            let mut single: Vec<Box<dyn Subject>> = vec![Box::new(Single::new(&few, &few_calls))];
-            measured.push(("single", measure(&few, &mut single, 5)[0]));
-            Line { workload: capacity.to_string(), measured }
+            let times = measure(&work, &mut batch_and_tree(&work, &calls), 9);
+            names.into_iter().zip(times).collect::<Vec<_>>()
         };
-        let lines: Vec<Line> = capacities.iter().map(line).collect();
-        println!("\n### Growth with the capacity, {}: nanoseconds an operation\n", mix.name);
-        print_table(&lines, &NAMES, |line, name| line.of(name), 1);
-    }
+        let measured = MIXES.iter().zip(NAMES).flat_map(of_mix).collect();
+        Line { workload: capacity.to_string(), measured }
+    };
+    let lines: Vec<Line> = [64, 128, 256, 512, 1024, 2048, 4096].iter().map(line).collect();
+    println!("\n### Growth with the capacity: nanoseconds an operation\n");
+    print_table(&lines, NAMES.as_flattened(), |line, name| line.of(name), 1);
 }
 
 /// Cost an operation by the length of a list: the soundness test is made once a list.
@@ -293,10 +299,7 @@ fn print_lengths() {
     let line = |&length: &usize| {
         let work = Work::mixed(CAPACITY, false, MIXES[0], (100_000 / length).min(1000), length);
         let calls = Calls::of_work(&work);
-        let mut subjects: Vec<Box<dyn Subject>> = vec![
-            Box::new(Batch::new(&work, &calls, false)),
-            Box::new(Directly::<Tree>::new("BTreeMap", &work)),
-        ];
+        let mut subjects = batch_and_tree(&work, &calls);
         let times = measure(&work, &mut subjects, 9);
         let measured = subjects.iter().map(|s| s.name()).zip(times).collect();
         Line { workload: length.to_string(), measured }
