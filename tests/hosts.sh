@@ -63,7 +63,6 @@ installed_flags() {
   if command -v pkg-config >/dev/null; then
     PKG_CONFIG_PATH=$1/lib/pkgconfig pkg-config --cflags --libs lopresnik
   else
-    echo "pkg-config is not there: its file is read instead" >&2
     sed -n 's/^\(Cflags\|Libs\): //p' "$file" | sed "s,\${libdir},$1/lib,;s,\${includedir},$1/include,"
   fi
 }
@@ -186,7 +185,9 @@ if [ -z "${LOPRESNIK_ARCHIVE-}" ]; then
 fi
 step "the header, as C11 and as C++17" bash -o pipefail -c run_header
 step "the example in C" bash -o pipefail -c run_c_example
-step "installed, and compiled from there" bash -o pipefail -c run_installed
+flags_from="by pkg-config"
+command -v pkg-config >/dev/null || flags_from="by its file for pkg-config, which is not there itself"
+step "installed, and compiled from there $flags_from" bash -o pipefail -c run_installed
 step "hostile memory" bash -o pipefail -c "run_hostile 100000" && cat "$work/step.log"
 if step "the archive of rt staticlib" bash -o pipefail -c x86_64_archive; then
   step "the example in C for x86-64" bash -o pipefail -c "x86_64_run hosts/c/example.c | diff hosts/c/example.txt -"

@@ -64,7 +64,7 @@ extern "C" {
 /* The length of `rows` at a capacity of the table. */
 #define LOPRESNIK_ROWS(capacity) ((size_t)LOPRESNIK_ROW * ((size_t)(capacity) + 2))
 /* The length of `buckets`, 0 where the capacity is not in the table. */
-#define LOPRESNIK_BUCKETS(capacity)     \
+#define LOPRESNIK_BUCKETS(capacity)      \
     ((capacity) == 64     ? (size_t)97   \
      : (capacity) == 128  ? (size_t)191  \
      : (capacity) == 256  ? (size_t)367  \

@@ -1,6 +1,6 @@
 //! What the wrapper adds to the archive: sizes, refusals, the bytes of a list.
 
-use lopresnik::{List, Map, Node, Refusal, Tables, Version, SIZES};
+use lopresnik::{End, List, Map, Node, Refusal, Tables, Version, SIZES};
 
 #[test]
 fn refusals_have_the_numbers_of_the_document() {
@@ -89,4 +89,67 @@ fn extreme_keys_are_keys() {
     assert_eq!(map.succ(i64::MAX), Err(Refusal::NoPresentKey));
     let pairs: Vec<_> = map.range(i64::MIN, i64::MAX).expect("a ticket is free").collect();
     assert_eq!(pairs, [(i64::MIN, i64::MAX), (i64::MAX, i64::MIN)]);
+}
+
+extern "C" {
+    /// The archive's own writer, which is proved.
+    fn lopresnik_write_call(
+        buffer: *mut u8,
+        buffer_length: usize,
+        code: u32,
+        first: i64,
+        second: i64,
+        third: u64,
+    ) -> usize;
+}
+
+fn written_by_the_archive(code: u32, first: i64, second: i64, third: u64) -> Vec<u8> {
+    let mut buffer = [0; 31];
+    // SAFETY: the buffer has this length; the function is proved for any numbers.
+    let length = unsafe {
+        lopresnik_write_call(buffer.as_mut_ptr(), buffer.len(), code, first, second, third)
+    };
+    buffer[..length].to_vec()
+}
+
+#[test]
+fn calls_are_written_as_the_archive_writes_them() {
+    let mut numbers = vec![i64::MIN, i64::MAX];
+    for bits in 0..63 {
+        numbers.extend([-1, 0, 1].map(|by| (1i64 << bits) + by));
+        numbers.extend([-1, 0, 1].map(|by| -(1i64 << bits) + by));
+    }
+    for &first in &numbers {
+        for &second in &numbers {
+            let (coin, small, room) = (second as u64, first as u32, second as u32);
+            let mut list = List::new();
+            list.lookup(first).insert(first, second, coin).remove(first).hand_over(Node(small));
+            list.ceil(first).floor(first).succ(first).pred(first);
+            list.fast_range(first, second).open_range(first, second);
+            list.step_range(Version(small), room).close_range(Version(small)).sweep().tally();
+            let mut bytes = Vec::new();
+            for code in 0..14 {
+                let (first, second) = match code {
+                    3 | 10 | 11 => (i64::from(small), i64::from(room)),
+                    _ => (first, second),
+                };
+                bytes.extend(written_by_the_archive(code, first, second, coin));
+            }
+            assert_eq!(list.bytes(), bytes, "{first} {second}");
+        }
+    }
+}
+
+#[test]
+fn room_that_can_never_suffice_is_full_with_nothing_used() {
+    let mut map = Map::new(64).expect("a capacity of the table");
+    let mut list = List::new();
+    list.tally();
+    for (cells, places) in [(4, 64), (5, 63), (0, 0)] {
+        let (mut answers, mut keys) = (vec![0; cells], vec![0; places]);
+        let ran = map.run(list.bytes(), false, &mut answers, &mut keys, &mut [0; 64]);
+        assert_eq!((ran.end, ran.used, ran.calls), (End::Full, 0, 0));
+    }
+    let ran = map.run(list.bytes(), false, &mut [0; 5], &mut [0; 64], &mut [0; 64]);
+    assert_eq!((ran.end, ran.calls), (End::Ended, 1));
 }
