@@ -69,7 +69,7 @@ there() {
 
 # ---- a root with scripts as programs, and a kit whose emulator runs them as they are
 
-cp -R example tools examples crates.txt "$root"
+cp -R example tools examples "$root"
 for machine in "$(uname -m)" other; do
   mkdir -p "$work/kit/on/$machine/toolchain/bin"
   script "$work/kit/on/$machine/toolchain/bin/qemu-x86_64" <<'END'
@@ -284,9 +284,16 @@ tail -n +2 "$RT_SAYS"
 ! grep -q NOT "$RT_SAYS"
 END
 script "$bin/schedule" <<<"exec cat '$PWD/examples/listing/lines.txt'"
-needed="lists rows sizes groups listing levels places transactions model buckets tables soundness returns changes finds ranges calls batch lines schedule"
-printf 'rt: %s proved (1 s)\n' $needed >"$work/all_new"
-printf 'rt: %s proved (unchanged since it was last proved)\n' $needed >"$work/all_old"
+cat >"$root/crates.txt" <<'END'
+# four of these are needed
+lists:
+sizes: lists # no other
+apart: lists sizes
+lines: lists sizes io
+schedule: lines sizes io libc
+END
+printf 'rt: %s proved (1 s)\n' lists sizes lines schedule >"$work/all_new"
+printf 'rt: %s proved (unchanged since it was last proved)\n' lists sizes lines schedule >"$work/all_old"
 sed 's/lists proved (1 s)/lists NOT PROVED (exit 1, 1 s)/' "$work/all_new" >"$work/not_proved"
 
 stub_example() {
@@ -303,18 +310,18 @@ example_tells() {
   rm -f "$work/in" && mkfifo "$work/in"
   stub_example all_new RT_WAITS="$work/in" &
   runner=$!
-  in_time grep -q '^example: proved lists: 1 of 20 crates, 0 min [0-9]* s$' "$work/said"
+  in_time grep -q '^example: proved lists: 1 of 4 crates, 0 min [0-9]* s$' "$work/said"
   came=$?
   echo go >"$work/in"
-  wait "$runner" && [ "$came" -eq 0 ] && grep -q '^example: proved schedule: 20 of 20 crates, ' "$work/said" &&
-    [ "$(wc -l <"$work/said")" -eq 20 ] && cmp "$work/wrote" examples/listing/lines.txt && nothing_left
+  wait "$runner" && [ "$came" -eq 0 ] && grep -q '^example: proved schedule: 4 of 4 crates, ' "$work/said" &&
+    [ "$(wc -l <"$work/said")" -eq 4 ] && cmp "$work/wrote" examples/listing/lines.txt && nothing_left
 }
 
 # On a terminal one line is written anew, and is gone before the program's lines come.
 example_on_terminal() {
   PATH=$work/stubs:$real_path TMPDIR=$work/tmp RATTLE_HOME=$work/kit RT_SAYS=$work/all_new python3 -c 'import pty, sys; pty.spawn(sys.argv[1:])' \
     "$root/example" </dev/null >"$work/wrote"
-  tr '\r' '\n' <"$work/wrote" | grep -q 'example: proved schedule: 20 of 20 crates' &&
+  tr '\r' '\n' <"$work/wrote" | grep -q 'example: proved schedule: 4 of 4 crates' &&
     tail -n +2 "$work/wrote" | tr -d '\r' | cmp - <(tail -n +2 examples/listing/lines.txt)
 }
 

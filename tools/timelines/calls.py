@@ -4,6 +4,8 @@ Two tables, CALLS and REFUSALS, say what a line of the program `schedule` means.
 place follows from the answers by the rules of the calls, and where an answer contradicts them, that is told.
 """
 
+from __future__ import annotations
+
 from dataclasses import dataclass, field
 from typing import Callable, NamedTuple
 
@@ -38,7 +40,7 @@ class Place(NamedTuple):
 
     sign: str
     word: str
-    holder: "Range | None" = None
+    holder: Range | None = None
 
 
 FREE = Place(".", "free")
