@@ -27,7 +27,7 @@ TO_READ, INNER, ENTRIES = 'Files to read', 'Inner files', 'Entry points'
 # Words in backticks that name nothing of the sources.
 PLAIN = {'rt ci', 'rt check', '.ci/run', 'specs/', 'proofs/', 'src/', 'must-fail/', 'requires', 'ensures', 'end', 'stop', 'schedule', 'set-up'}
 # Crates whose public functions are all entry points.
-WHOLE = ['calls', 'lent', 'lopresnik', 'tickets', 'tickets_open']
+WHOLE = ['calls', 'lent', 'lopresnik', 'tickets', 'tickets_open', 'windows']
 
 NAME = r'[^\s`./:{},]+'
 NAMES = rf'(?:{NAME}|\{{{NAME}(?:, {NAME})*\}})'
