@@ -136,6 +136,7 @@ if ! second_cargo build; then
   finish
 fi
 run_own_tests
+include python3 tests/statements.py
 if make_corpus; then
   check_coverage
   compare_schedule
@@ -146,7 +147,6 @@ compare_verdicts
 check_walks tools/lent/lent.py tickets_open
 check_walks tools/lent/lent.py lent
 check_walks tools/lent/export.py lopresnik
-include python3 tests/statements.py
 include tests/schedule.sh
 include env -u CARGO_TARGET_DIR tests/hosts.sh
 finish
