@@ -138,6 +138,7 @@ if ! second_cargo build; then
   finish
 fi
 run_own_tests
+include python3 tests/statements.py
 if make_corpus; then
   check_coverage
   compare_schedule
@@ -147,7 +148,6 @@ fi
 check_walks tools/lent/lent.py tickets_open
 check_walks tools/lent/lent.py lent
 check_walks tools/lent/export.py lopresnik
-include python3 tests/statements.py
 include tests/schedule.sh
 include tests/text.sh
 include tests/users.sh
