@@ -1,11 +1,11 @@
--- `schedule::fetch` meets its contract.
+-- `windows::read_behind` meets its contract.
 -- Assumes nothing.
 use native.Mathlib.Omega.{arith}
 use denote.Ref.{now}
-use Rattle.schedule.proofs.Fetching.{fetched}
+use Rattle.windows.proofs.Fetching.{fetched}
 use borrow.Author.Needs.{needs}
-use Rattle.schedule.proofs.fetch.Statement.{statement}
-use Rattle.schedule.proofs.fetch.Tie as tie
+use Rattle.windows.proofs.read_behind.Statement.{statement}
+use Rattle.windows.proofs.read_behind.Tie as tie
 
 sub-held : tie.Need-sub-held
 sub-held c = search needs
@@ -64,20 +64,23 @@ same-length-2 c = search needs
 returns-2 : tie.Need-returns-2
 returns-2 c = search needs
 
-add-t15 : tie.Need-add-t15
-add-t15 c = search needs
+add-t16 : tie.Need-add-t16
+add-t16 c = search needs
 
-add-t26 : tie.Need-add-t26
-add-t26 c = search needs
+add-t27 : tie.Need-add-t27
+add-t27 c = search needs
 
 same-length-3 : tie.Need-same-length-3
 same-length-3 c = search needs
 
 returns-3 : tie.Need-returns-3
-returns-3 c = fetched (c .before .before .before .before .before .before .before .before .before .before .before .before .before .before .args .window) (now (c .before .before .before .before .before .before .before .before .before .before .before .before .before .before .args .input)) (c .before .before .before .before .before .before .before .before .before .before .before .move-to-front .last .0) (c .before .before .before .before .before .before .before .read .last .1 .0) (c .before .count .result) (c .before .before .before .before .before .before .before .before .before .before .before .before .before .before .pre) (c .before .before .before .before .before .before .before .before .before .before .before .move-to-front .kept .0) (c .before .before .before .before .before .before .before .before .before .before .before .move-to-front .ensures) (omega arith) (omega arith)
+returns-3 c =
+    let m = c .before .before .before .before .before .before .before .before .before .before .before .move-to-front in
+    let k : tie.Need-same-length-3 = same-length-3 in
+    fetched (c .before .before .before .before .before .before .before .before .before .before .before .before .before .before .before .args .window) (now (c .before .before .before .before .before .before .before .before .before .before .before .before .before .before .before .args .input)) (m .last .0) (c .before .before .before .before .before .before .before .read .last .1 .0) (c .before .count .result) (c .before .before .before .before .before .before .before .before .before .before .before .before .before .before .before .pre) (m .kept .0) (m .ensures) (k c) (omega arith) (omega arith)
 
-pub fetch-spec : {M : Type 1} → statement M
-fetch-spec =
+pub read-behind-spec : {M : Type 1} → statement M
+read-behind-spec =
     tie.close
     (tie.spec
     sub-held
@@ -99,7 +102,7 @@ fetch-spec =
     complain-requires-2
     same-length-2
     returns-2
-    add-t15
-    add-t26
+    add-t16
+    add-t27
     same-length-3
     returns-3)

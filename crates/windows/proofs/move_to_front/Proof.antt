@@ -1,12 +1,12 @@
--- `schedule::move_to_front` meets its contract. The invariant: the first i bytes were moved.
+-- `windows::move_to_front` meets its contract. The invariant: the first i bytes were moved.
 -- Assumes nothing.
 use mathlib.Core.Path.{_≡_, refl}
 use Prim.Native.Nat.{_≤_, _+_, _-_}
 use native.Mathlib.Omega.{arith}
 use lib.ListN.{length}
-use Rattle.schedule.proofs.Moving.{Moved, moved-none, moved-next}
-use Rattle.schedule.proofs.move_to_front.Statement.{statement}
-use Rattle.schedule.proofs.move_to_front.Tie as tie
+use Rattle.windows.proofs.Moving.{Moved, moved-none, moved-next}
+use Rattle.windows.proofs.move_to_front.Statement.{statement}
+use Rattle.windows.proofs.move_to_front.Tie as tie
 
 abbrev Inv-loop : tie.InvT-loop
 Inv-loop buffer₀ from to count i₀ buffer i = (i ≤ count) × (count ≡ to - from) × Moved buffer₀ from i buffer
