@@ -142,7 +142,10 @@ fn read_behind(program: &[u8], input: &mut [u8], window: Window) -> Fetched
     }
     let count = io::count(got, &input[held..]);
     if LAST - read < count as u64 {
-        complain(program, b": standard input is too long to count its bytes\n");
+        complain(
+            program,
+            b": standard input is too long to count its bytes\n",
+        );
         return Fetched::Failed;
     }
     Fetched::Held(Window {
