@@ -1,49 +1,43 @@
 // Reads a schedule file from standard input and writes it as text to standard output. Where the bytes stop making sense, that is told
 // on standard error with their offset, and ends the program; what stands before them has been written.
 ghost use mathlib.Core.Path.{_≡_};
+ghost use mathlib.Core.Bool.{true};
 ghost use Prim.Native.Nat.{_≤_};
 ghost use lib.ListN.{length};
+ghost use Rattle.windows.specs.Windows.{Held, leftOf};
 use groups::Wrote;
 use libc::STDERR_FILENO;
-use libc::STDIN_FILENO;
 use libc::STDOUT_FILENO;
 use transactions::Call;
 use transactions::Header;
 use transactions::HeaderReading;
 use transactions::Reading;
+use windows::Fetched;
+use windows::Window;
 
 const ROOM: usize = 4096;
 
-// How far the program is: the offset of the buffer's first byte, whether the header was read, and whether to go on.
+// How far the program is: what is held of the input, whether the header was read, and whether to go on.
 struct Progress {
-    pub offset: u64,
+    pub window: Window,
     pub header: bool,
     pub going: bool,
 }
 
-// The place up to which the bytes were taken, and whether to go on.
+// The place up to which the bytes held were taken, and whether to go on.
 struct Taken {
     pub at: usize,
     pub going: bool,
-}
-
-// How many bytes stand in the buffer, and how far the program is.
-struct Filled {
-    pub count: usize,
-    pub progress: Progress,
 }
 
 fn say(text: &[u8]) {
     io::write_all(STDERR_FILENO, text);
 }
 
-// Tells where the bytes stop making sense.
-fn refuse(offset: u64, place: usize) {
+// Tells where the bytes stop making sense: at a place behind the first byte held.
+fn refuse(window: Window, place: usize) {
     say(b"byte ");
-    io::print_decimal(
-        STDERR_FILENO,
-        std::num::wrapping_add_u64(offset, place as u64),
-    );
+    io::print_decimal(STDERR_FILENO, windows::offset_of(window, place));
     say(b": not a schedule file from here\n");
 }
 
@@ -72,18 +66,18 @@ fn show_header(header: Header) -> bool {
     write_front(&text, wrote)
 }
 
-// Takes the header, if it is there.
-fn take_header(bytes: &[u8], more: bool) -> Taken
+// Takes the header from the bytes held, if it is there.
+fn take_header(bytes: &[u8], window: Window) -> Taken
     ensures { λ r. ⌜ r .at ≤ length (now (bytes .entry)) ⌝ }
 {
-    let reading = transactions::read_header(bytes, more);
+    let reading = transactions::read_header(bytes, window.more);
     match reading {
         HeaderReading::Header(header, len) => Taken {
             at: len,
             going: show_header(header),
         },
         HeaderReading::Stop(place) => {
-            refuse(0, place);
+            refuse(window, place);
             Taken {
                 at: 0,
                 going: false,
@@ -93,14 +87,14 @@ fn take_header(bytes: &[u8], more: bool) -> Taken
     }
 }
 
-// Takes the calls from a place on.
-fn take_calls(bytes: &[u8], from: usize, more: bool, offset: u64) -> Taken
+// Takes the calls from a place of the bytes held on.
+fn take_calls(bytes: &[u8], from: usize, window: Window) -> Taken
     requires { ⌜ from ≤ length (now bytes) ⌝ }
     ensures { λ r. ⌜ r .at ≤ length (now (bytes .entry)) ⌝ }
 {
     let mut at = from;
     while at < bytes.len() {
-        let reading = transactions::read_call(bytes, at, more);
+        let reading = transactions::read_call(bytes, at, window.more);
         match reading {
             Reading::Call(call, len) => {
                 if !show_call(call) {
@@ -109,7 +103,7 @@ fn take_calls(bytes: &[u8], from: usize, more: bool, offset: u64) -> Taken
                 at += len;
             }
             Reading::Stop(place) => {
-                refuse(offset, place);
+                refuse(window, place);
                 return Taken { at, going: false };
             }
             Reading::More => {
@@ -121,107 +115,66 @@ fn take_calls(bytes: &[u8], from: usize, more: bool, offset: u64) -> Taken
 }
 
 // Takes the header, if it was not yet read, and the calls behind it.
-fn take_bytes(bytes: &[u8], more: bool, progress: Progress) -> Taken
+fn take_bytes(bytes: &[u8], window: Window, header: bool) -> Taken
     ensures { λ r. ⌜ r .at ≤ length (now (bytes .entry)) ⌝ }
 {
-    if progress.header {
-        return take_calls(bytes, 0, more, progress.offset);
+    if header {
+        return take_calls(bytes, 0, window);
     }
-    let header = take_header(bytes, more);
-    if !header.going {
-        return header;
+    let taken = take_header(bytes, window);
+    if !taken.going {
+        return taken;
     }
-    if header.at == 0 {
-        return header;
+    if taken.at == 0 {
+        return taken;
     }
-    take_calls(bytes, header.at, more, 0)
+    take_calls(bytes, taken.at, window)
 }
 
-// Moves the bytes between two places to the front.
-fn move_down(buffer: &mut [u8], from: usize, to: usize)
-    requires { ⌜ (from ≤ to) × (to ≤ length (now buffer)) ⌝ }
+// Whether the header was read once so many more bytes were taken, of which it would have been the first.
+fn header_read(header: bool, at: usize) -> bool {
+    if 0 < at {
+        return true;
+    }
+    header
+}
+
+// Takes what is held. Behind the end of the input nothing follows.
+fn take_held(buffer: &[u8], window: Window, header: bool) -> Progress
+    requires { ⌜ Held window (length (now buffer)) ⌝ }
+    ensures { λ r. ⌜ Held (r .window) (length (now (buffer .entry))) × (leftOf (r .window) ≤ leftOf window) × (r .going ≡ true → r .window .more ≡ true) ⌝ }
 {
-    let mut i = from;
-    while i < to {
-        buffer[i - from] = buffer[i];
-        i += 1;
+    let from = window.from;
+    let to = window.to;
+    let taken = take_bytes(&buffer[from..to], window, header);
+    let rest = windows::drop_front(window, taken.at);
+    let read = header_read(header, taken.at);
+    if window.more {
+        return Progress {
+            window: rest,
+            header: read,
+            going: taken.going,
+        };
     }
-}
-
-// How far the program is once the bytes up to a place were taken: a header takes some.
-fn advanced(progress: Progress, taken: Taken) -> Progress {
-    let at = taken.at;
     Progress {
-        offset: std::num::wrapping_add_u64(progress.offset, at as u64),
-        header: if 0 < at { true } else { progress.header },
-        going: taken.going,
-    }
-}
-
-// Takes the first bytes of the buffer, and moves what is left of them to the front.
-fn take_filled(buffer: &mut [u8], count: usize, progress: Progress) -> Filled
-    requires { ⌜ count ≤ length (now buffer) ⌝ }
-    ensures { λ r. ⌜ r .count ≤ length (now (buffer .exit)) ⌝ }
-{
-    let taken = take_bytes(&buffer[..count], true, progress);
-    let at = taken.at;
-    move_down(buffer, at, count);
-    Filled {
-        count: count - at,
-        progress: advanced(progress, taken),
-    }
-}
-
-fn stopped(progress: Progress) -> Progress {
-    Progress {
-        offset: progress.offset,
-        header: progress.header,
+        window: rest,
+        header: read,
         going: false,
     }
 }
 
-// Reads once behind the first bytes of the buffer, and takes what is there.
-fn read_once(buffer: &mut [u8], count: usize, progress: Progress) -> Filled
-    requires { ⌜ count ≤ length (now buffer) ⌝ }
-    ensures { λ r. ⌜ r .count ≤ length (now (buffer .exit)) ⌝ }
-{
-    let free = &mut buffer[count..];
-    let got = libc::read(STDIN_FILENO, free);
-    let more = io::count(got, free);
-    if got < 0 {
-        os::fail(b"standard input");
-        return Filled {
-            count,
-            progress: stopped(progress),
-        };
-    }
-    if more == 0 {
-        take_bytes(&buffer[..count], false, progress);
-        return Filled {
-            count,
-            progress: stopped(progress),
-        };
-    }
-    take_filled(buffer, count + more, progress)
-}
-
 fn main() {
     let mut buffer = [0u8; ROOM];
-    let mut filled = Filled {
-        count: 0,
-        progress: Progress {
-            offset: 0,
-            header: false,
-            going: true,
-        },
+    let mut progress = Progress {
+        window: windows::unread_window(),
+        header: false,
+        going: true,
     };
-    let mut turns: u64 = 18446744073709551615;
-    while 0 < turns {
-        filled = read_once(&mut buffer, filled.count, filled.progress);
-        let progress = filled.progress;
-        if !progress.going {
+    while progress.going {
+        let Fetched::Held(window) = windows::fetch(b"read_schedule", &mut buffer, progress.window)
+        else {
             return;
-        }
-        turns -= 1;
+        };
+        progress = take_held(&buffer, window, progress.header);
     }
 }

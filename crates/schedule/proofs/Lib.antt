@@ -1,4 +1,4 @@
-pub mod Moving
-pub mod Fetching
-pub mod Going
-pub mod Taking
+pub mod Preparing
+pub mod Turning
+pub mod Filing
+pub mod Once

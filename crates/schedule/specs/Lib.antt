@@ -1,2 +1,3 @@
-pub mod Windows
-pub mod Sessions
+pub mod SetUps
+pub mod Turns
+pub mod Files

@@ -11,17 +11,17 @@ use Rattle.read_schedule.proofs.take_calls.Statement.{statement}
 use Rattle.read_schedule.proofs.take_calls.Tie as tie
 
 abbrev Inv-loop : tie.InvT-loop
-Inv-loop bytes from more offset at₀ at = at ≤ length bytes
+Inv-loop bytes from window at₀ at = at ≤ length bytes
 
 abbrev μ-loop : tie.MeasureT-loop
-μ-loop bytes from more offset at₀ at = length bytes - at
+μ-loop bytes from window at₀ at = length bytes - at
 
 -- a call that was read ends within the bytes, and is not empty
 ends : (c : tie.After-reading Inv-loop μ-loop) → (c .before .before .before .before .loop .at + c .reading .given .0 .1 .0 ≤ length (c .before .before .before .before .before .before .args .bytes .now)) × (1 ≤ c .reading .given .0 .1 .0)
 ends c =
     let a = c .before .before .before .before .before .before .args in
     let at = c .before .before .before .before .loop .at in
-    let w = subst (CallRead (drop at (a .bytes .now)) at (a .more)) (c .reading .given .1) (c .before .before .read-call .ensures) in
+    let w = subst (CallRead (drop at (a .bytes .now)) at (a .window .more)) (c .reading .given .1) (c .before .before .read-call .ensures) in
     omega (arith, w .inside, length-drop at (a .bytes .now), call-length w .0)
 
 loop-holds : tie.Need-loop-holds Inv-loop μ-loop

@@ -25,7 +25,7 @@ enum-told : tie.Need-enum-told
 enum-told c = search needs
 
 returns : tie.Need-returns
-returns c = let a = c .before .before .before .before .before .before .args in subst (HeaderRead (a .bytes .now) (a .more)) (c .before .before .reading .given .1) (c .before .before .before .before .read-header .ensures) .inside
+returns c = let a = c .before .before .before .before .before .before .args in subst (HeaderRead (a .bytes .now) (a .window .more)) (c .before .before .reading .given .1) (c .before .before .before .before .read-header .ensures) .inside
 
 returns-2 : tie.Need-returns-2
 returns-2 c = search needs

@@ -1,7 +1,7 @@
 -- `schedule::lengths_of` meets its contract.
 -- Assumes nothing.
 use mathlib.Core.Path.{sym, ap, _∙_}
-use Rattle.schedule.specs.Sessions.{lengthsOf}
+use Rattle.schedule.specs.SetUps.{lengthsOf}
 use borrow.Author.Needs.{needs}
 use Rattle.schedule.proofs.lengths_of.Statement.{statement}
 use Rattle.schedule.proofs.lengths_of.Tie as tie
