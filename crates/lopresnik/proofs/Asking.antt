@@ -1,6 +1,6 @@
 -- Laws of the calls that a host asks for in plain numbers, and of writing them.
 -- Assumes nothing.
-use Prim.Native.Nat.{ℕ, zero, suc, _≤_, _<_}
+use Prim.Native.Nat.{ℕ, zero, suc, _+_, _≤_, _<_}
 use mathlib.Core.Path.{_≡_, refl, sym, ap, ap₂, subst, _∙_}
 use mathlib.Core.Bool.{Bool, true, false, cond}
 use mathlib.Core.List.{List, [], _∷_, _++_}
@@ -25,7 +25,7 @@ use Rattle.transactions.proofs.Trips.{call-written}
 use Rattle.transactions.proofs.Lengths.{call-length}
 use Rattle.lopresnik.specs.declared.writing.Small.{Small}
 use Rattle.lopresnik.specs.declared.writing.Asked.{Asked}
-use Rattle.lopresnik.specs.Written.{narrowed, handsOver, steps, closes, callsOf, asked, written, AskedWritten}
+use Rattle.lopresnik.specs.Written.{narrowed, handsOver, steps, closes, callsOf, asked, WrittenAs, written, AskedWritten}
 
 -- a signed number as the code holds it
 pub held : (z : ℤ) → SFits w64 z → toZ w64 (ofZ w64 z) ≡ z
@@ -61,13 +61,17 @@ abbrev pub TypedAsked : Asked → Type 0
 TypedAsked (Asked.Call call) = Typed call
 TypedAsked Asked.Nothing = Unit {0}
 
-narrow-typed : (f : Small → Asked) → ((n : ℕ) → Fits w32 n → TypedAsked (f (Small.Of n))) → TypedAsked (f Small.Nothing) → (z : ℤ) → TypedAsked (f (narrowed z))
-narrow-typed f some none (negsuc n) = none
-narrow-typed f some none (pos n) = go (leb n small) refl
+-- what holds of a number below 2 ^ 32 and of none holds of any number that was tested
+narrow-cases : (P : ℤ → Small → Type 0) → ((n : ℕ) → Fits w32 n → P (pos n) (Small.Of n)) → ((z : ℤ) → P z Small.Nothing) → (z : ℤ) → P z (narrowed z)
+narrow-cases P some none (negsuc n) = none (negsuc n)
+narrow-cases P some none (pos n) = go (leb n small) refl
   where
-    go : (b : Bool) → leb n small ≡ b → TypedAsked (f (cond b (Small.Of n) Small.Nothing))
+    go : (b : Bool) → leb n small ≡ b → P (pos n) (cond b (Small.Of n) Small.Nothing)
     go true e = some n (record { fits = omega (arith, leb-true n small e) })
-    go false e = none
+    go false e = none (pos n)
+
+narrow-typed : (f : Small → Asked) → ((n : ℕ) → Fits w32 n → TypedAsked (f (Small.Of n))) → TypedAsked (f Small.Nothing) → (z : ℤ) → TypedAsked (f (narrowed z))
+narrow-typed f some none = narrow-cases (λ z s. TypedAsked (f s)) some (λ z. none)
 
 -- LAW: so they are of any numbers that a host can give
 pub asked-typed : (code : ℕ) (first second : ℤ) (third : ℕ) → SFits w64 first → SFits w64 second → Fits w64 third → TypedAsked (asked code first second third)
@@ -79,6 +83,36 @@ asked-typed code first second third f g h =
     tt
     (f, ((f, g, h), (f, (narrow-typed handsOver (λ n t. t) tt first, (f, (f, (f, (f, ((f, g), ((f, g), (narrow-typed (λ s. steps s (narrowed second)) (λ v t. narrow-typed (steps (Small.Of v)) (λ n u. (t, u)) tt second) tt first, (narrow-typed closes (λ n t. t) tt first, (tt, (tt, tt))))))))))))))
     code
+
+-- each call of a list is as P says at its place, which are counted from n on
+abbrev From : (ℕ → Asked → Type 0) → ℕ → List Asked → Type 0
+From P n [] = Unit {0}
+From P n (a ∷ rest) = P n a × From P (suc n) rest
+
+from-getD : (P : ℕ → Asked → Type 0) → ((n : ℕ) → P n Asked.Nothing) → (n : ℕ) (calls : List Asked) → From P n calls → (i : ℕ) → P (n + i) (getD calls i Asked.Nothing)
+from-getD P none n [] f i = none (n + i)
+from-getD P none n (a ∷ rest) f zero = let e : n ≡ n + 0 = omega arith in subst (λ k. P k a) e (f .0)
+from-getD P none n (a ∷ rest) f (suc i) =
+    let e : suc n + i ≡ n + suc i = omega arith in subst (λ k. P k (getD rest i Asked.Nothing)) e (from-getD P none (suc n) rest (f .1) i)
+
+-- LAW: what is asked for by a code and numbers is written with this code and these numbers
+pub asked-numbers : (code : ℕ) (first second : ℤ) (third : ℕ) → WrittenAs code first second third (asked code first second third)
+asked-numbers code first second third =
+    let e : 0 + code ≡ code = omega arith in
+    subst (λ n. WrittenAs n first second third (asked code first second third)) e
+    (from-getD (λ n. WrittenAs n first second third) (λ n. tt) 0 (callsOf first second third)
+    (refl, (refl, (refl, (hand, (refl, (refl, (refl, (refl, (refl, (refl, (move, (shut, (refl, (refl, tt)))))))))))))) code)
+  where
+    hand : WrittenAs 3 first second third (handsOver (narrowed first))
+    hand = narrow-cases (λ z s. WrittenAs 3 z second third (handsOver s)) (λ n t. refl) (λ z. tt) first
+
+    move : WrittenAs 10 first second third (steps (narrowed first) (narrowed second))
+    move =
+        narrow-cases (λ z s. WrittenAs 10 z second third (steps s (narrowed second)))
+        (λ v t. narrow-cases (λ z s. WrittenAs 10 (pos v) z third (steps (Small.Of v) s)) (λ n u. refl) (λ z. tt) second) (λ z. tt) first
+
+    shut : WrittenAs 11 first second third (closes (narrowed first))
+    shut = narrow-cases (λ z s. WrittenAs 11 z second third (closes s)) (λ n t. refl) (λ z. tt) first
 
 -- LAW: two outcomes of writing what is asked for are equal
 pub asked-once : (a : Asked) (before : List ℕ) {x y : List ℕ} {r s : ℕ} → AskedWritten a before x r → AskedWritten a before y s → (x ≡ y) × (r ≡ s)

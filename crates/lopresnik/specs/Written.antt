@@ -6,14 +6,15 @@ use mathlib.Core.Bool.{cond}
 use mathlib.Core.List.{List, [], _∷_}
 use lib.Dec.{leb}
 use lib.IntN.{ℤ, pos, negsuc}
-use lib.ListN.{getD}
+use lib.ListN.{length, take, getD}
 use Rattle.groups.specs.declared.Wrote.{Wrote}
 use Rattle.groups.specs.Buffers.{Writes}
 use Rattle.tables.specs.Tables.{version, node}
 use Rattle.transactions.specs.declared.Header.{Header}
 use Rattle.transactions.specs.declared.Call.the-variants.{Lookup, Insert, Remove, HandOver, Ceil, Floor, Succ, Pred, Fast, Open, Step, Close, Sweep, Tally}
 use Rattle.transactions.specs.Sequences.{bytesOf}
-use Rattle.transactions.specs.Calls.{numbersOf, small}
+use Rattle.transactions.specs.Calls.{numbersOf, operandsOf, small}
+use Rattle.batch.specs.Turns.{signedBehind, filed}
 use Rattle.lopresnik.specs.declared.writing.Small.{Small}
 use Rattle.lopresnik.specs.declared.writing.Asked.{Asked}
 use Rattle.lopresnik.specs.Exports.{Gives}
@@ -63,6 +64,12 @@ callsOf first second third =
 -- the call of this code
 abbrev pub asked : ℕ → ℤ → ℤ → ℕ → Asked
 asked code first second third = getD (callsOf first second third) code Asked.Nothing
+
+-- the call is written with this code and these numbers, as many as its code has
+abbrev pub WrittenAs : ℕ → ℤ → ℤ → ℕ → Asked → Type 0
+WrittenAs code first second third (Asked.Call call) =
+    numbersOf call ≡ code ∷ take (length (operandsOf code)) (filed (signedBehind code) (first ∷ second ∷ pos third ∷ []))
+WrittenAs code first second third Asked.Nothing = Unit {0}
 
 -- the length of what was written, 0 where it was refused
 abbrev pub written : Wrote → ℕ
