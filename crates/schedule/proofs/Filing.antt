@@ -1,7 +1,7 @@
 -- The program prints what it prints of the whole input, however the input comes in pieces.
 -- Assumes nothing.
 use mathlib.Core.Path.{_≡_, refl, sym, ap, _∙_, subst}
-use mathlib.Core.Bool.{Bool, true, false, true≢false}
+use mathlib.Core.Bool.{Bool, true, false, cond, true≢false}
 use mathlib.Core.List.{List, [], _∷_, _++_, append-assoc, append-nil}
 use Prim.Native.Nat.{ℕ, _+_, _≤_}
 use native.Mathlib.Omega.{arith}
@@ -14,7 +14,8 @@ use Rattle.transactions.specs.declared.HeaderReading.{HeaderReading}
 use Rattle.transactions.specs.Readings.{HeaderRead, WholeHeader}
 use Rattle.tables.specs.Tables.{Tables, Sound, view}
 use Rattle.batch.specs.declared.End.{End}
-use Rattle.batch.specs.Lists.{inputOf, Listed}
+use Rattle.batch.specs.Lists.{inputOf, Follows, Listed}
+use Rattle.batch.specs.declared.Then.the-variants.{Over}
 use Rattle.batch.proofs.Listing.{listed-bytes, listed-model}
 use Rattle.lines.specs.Files.{endLine, stopLine, Part, partLines, InParts}
 use Rattle.lines.specs.Files as F
@@ -31,9 +32,13 @@ use Rattle.schedule.specs.SetUps.{setUpResult, Memory}
 use Rattle.schedule.specs.Turns.{inputSize, tablesOf, Starts, Ready, setUpLine, HeaderTurn, lastOf, nextOf, PartBy, TurnBy, holding}
 use Rattle.schedule.specs.Files.{PrintsFile, Runs}
 use Rattle.schedule.specs.Files as W
-use Rattle.schedule.proofs.Turning.{starts-ready, bytes-held, ended-last, next-none, read-none, on-over, on-read, over-on, over-read, over-unsound, read-over, ended-over, after-on, after-over, after-read}
+use Rattle.schedule.proofs.Turning.{starts-ready, bytes-held, ended-last, next-none, read-none, on-over, on-read, over-on, over-read, over-unsound, read-over, on-unsound, read-unsound, ended-over, after-on, after-over, after-read}
 
 -- ---- a part
+
+ended-unsound : (b : Bool) → cond b Next.Read Next.Over ≡ Next.Unsound → ⊥
+ended-unsound true e = read-unsound (sym e)
+ended-unsound false e = over-unsound (sym e)
 
 module _ {m m′ : Memory} {s : Session} {input out : List ℕ} {answers ks vs : List ℤ} {r : Turned} (S : Sound (tablesOf m s)) (p : PartBy m s input answers ks vs m′ out r) where
   -- on sound tables the calls are made
@@ -43,9 +48,21 @@ module _ {m m′ : Memory} {s : Session} {input out : List ℕ} {answers ks vs :
   abbrev part : Part (tablesOf m s) (heldIn (s .window) input) (s .window .more)
   part = record { answers = answers; keys = ks; values = vs; output = p .output; listed = listed }
 
-  -- which leaves sound tables
-  sound-after : Sound (tablesOf m′ (r .session))
+  -- LAW: which leaves sound tables
+  pub sound-after : Sound (tablesOf m′ (r .session))
   sound-after = rw (p .tables) (listed-model S listed .sound)
+
+  -- LAW: so no turn ever finds tables that are not sound
+  pub never-unsound : r .next ≡ Next.Unsound → ⊥
+  never-unsound e = go (p .output .end) refl (sym (p .next) ∙ e)
+    where
+      go : (end : End) → p .output .end ≡ end → nextOf (s .window) end ≡ Next.Unsound → ⊥
+      go End.Ended f q = ended-unsound (s .window .more) q
+      go (End.Stop place) f q = over-unsound (sym q)
+      go End.More f q = read-unsound (sym q)
+      go End.Full f q = on-unsound (sym q)
+      go (End.Refused n) f q =
+          subst (λ (x : End). Follows (inputOf (tablesOf m s) (heldIn (s .window) input) (s .window .more) answers ks vs) (listed .made) (Over x)) f (listed .ends)
 
   printed : take (r .length) out ≡ partLines (s .calls) part ++ lastOf (s .window) (p .output .end)
   printed = p .lines (p .ran .says .told S) .is

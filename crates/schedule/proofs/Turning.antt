@@ -100,13 +100,13 @@ on-over e = let z : _≡_ {A = ℕ} 2 0 = ap numbered e in absurd (omega arith)
 pub on-read : {P : Type 0} → Next.Read ≡ Next.On → P
 on-read e = let z : _≡_ {A = ℕ} 1 0 = ap numbered e in absurd (omega arith)
 
-on-unsound : {P : Type 0} → Next.Unsound ≡ Next.On → P
+pub on-unsound : {P : Type 0} → Next.Unsound ≡ Next.On → P
 on-unsound e = let z : _≡_ {A = ℕ} 3 0 = ap numbered e in absurd (omega arith)
 
 pub read-over : {P : Type 0} → Next.Over ≡ Next.Read → P
 read-over e = let z : _≡_ {A = ℕ} 2 1 = ap numbered e in absurd (omega arith)
 
-read-unsound : {P : Type 0} → Next.Unsound ≡ Next.Read → P
+pub read-unsound : {P : Type 0} → Next.Unsound ≡ Next.Read → P
 read-unsound e = let z : _≡_ {A = ℕ} 3 1 = ap numbered e in absurd (omega arith)
 
 pub over-on : {P : Type 0} → Next.On ≡ Next.Over → P
