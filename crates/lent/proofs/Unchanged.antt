@@ -1,6 +1,6 @@
 -- A refused lent form leaves all that is lent as it was, cell by cell: the tables with tickets and coordinator, the pair buffers, the room for answers.
 -- Assumes nothing.
-use mathlib.Core.Path.{_≡_, sym, ap, _∙_}
+use mathlib.Core.Path.{_≡_, ap, _∙_}
 use mathlib.Core.Bool.{Bool}
 use mathlib.Core.List.{List}
 use Prim.Native.Nat.{ℕ}
@@ -20,7 +20,7 @@ use Rattle.model.specs.declared.Opened.{Opened}
 use Rattle.model.specs.declared.Stepped.{Stepped}
 use Rattle.model.specs.declared.Ranged.{Ranged}
 use Rattle.tables.specs.Tables.{Tables}
-use Rattle.soundness.specs.SetUp.{SetUpBy, tablesAfter}
+use Rattle.soundness.proofs.Fresh as F
 use Rattle.calls.specs.Entries as E
 use Rattle.calls.proofs.Unchanged as U
 use Rattle.batch.specs.declared.End.{End}
@@ -42,7 +42,7 @@ module _ {X Y : Type 0} {n : ℕ} {ByValue : X → X → Y → Type 0} {refuse :
 -- ---- LAWS: with so many tickets, each lent form; m is the number of the refusal
 
 pub set-up-unchanged : (n capacity : ℕ) (start : Version) (t t′ : Tables) (m : ℕ) → SetsUp n capacity start t t′ (SetUp.Refused m) → t′ ≡ t
-set-up-unchanged n capacity start t t′ m = lends-unchanged (λ (o : SetUpBy t t′ capacity start (SetUp.Refused m)). o .tables ∙ ap (λ (a : SetUp). tablesAfter a t capacity start) (sym (o .answer)))
+set-up-unchanged n capacity start t t′ m = lends-unchanged (F.set-up-unchanged t t′ capacity start m)
 
 -- lookup, ceil, floor, succ, pred and tally leave it whatever they answer
 pub lookup-unchanged : (n : ℕ) (k : ℤ) (t t′ : Tables) (a : Found) → Looks n k t t′ a → t′ ≡ t
