@@ -272,6 +272,7 @@ expect "the timeline of 256 nodes" timeline_is_narrow
 script "$work/stubs/rt" <<'END'
 [ "$*" = "check schedule" ] || exit 2
 head -n 1 "$RT_SAYS"
+[ -z "${RT_LOGS-}" ] || { sleep 0.1; mkdir -p target/log; : >target/log/lines.say; echo done >target/log/sizes.say; }
 [ -z "${RT_WAITS-}" ] || read -r line <"$RT_WAITS"
 if [ -n "${RT_CHILD-}" ]; then
   mktemp >/dev/null
@@ -317,6 +318,18 @@ example_tells() {
     [ "$(wc -l <"$work/said")" -eq 4 ] && cmp "$work/wrote" examples/listing/lines.txt && nothing_left
 }
 
+# A crate that takes long is named while it is being proved; one whose log is whole is not.
+example_names() {
+  local runner came
+  rm -f "$work/in" && mkfifo "$work/in"
+  stub_example all_new RT_WAITS="$work/in" RT_LOGS=yes &
+  runner=$!
+  in_time grep -q '^example: proving lines: 1 of 4 crates are proved, 0 min [0-9]* s$' "$work/said"
+  came=$?
+  echo go >"$work/in"
+  wait "$runner" && [ "$came" -eq 0 ] && nothing_left
+}
+
 # On a terminal one line is written anew, and is gone before the program's lines come.
 example_on_terminal() {
   PATH=$work/stubs:$real_path TMPDIR=$work/tmp RATTLE_HOME=$work/kit RT_SAYS=$work/all_new python3 -c 'import pty, sys; pty.spawn(sys.argv[1:])' \
@@ -356,6 +369,7 @@ example_proves_nothing() {
 
 expect "example: how far the proof is" example_tells
 expect "example: how far the proof is, on a terminal" example_on_terminal
+expect "example: the crate that is being proved" example_names
 expect "example: no word where all is proved" example_is_quiet
 expect "example: a crate that is not proved" example_not_proved
 expect "example: no rt" example_without_rt
