@@ -4,25 +4,10 @@
 # programs and the second program (tests/run.sh builds it). Its last line is `N passed, M failed`.
 set -u
 cd "$(dirname "$0")/.." || exit 1
+. tests/counting.sh
 
 programs=${CARGO_TARGET_DIR:-$PWD/target/second}/release
 schedule="tools/run schedule"
-passed=0
-failed=0
-work=$(mktemp -d) || exit 1
-trap 'rm -rf "$work"' EXIT
-
-# Counts a test by whether the command after its name succeeds.
-expect() {
-  local name=$1
-  shift
-  if "$@"; then
-    passed=$((passed + 1))
-  else
-    echo "tests: $name"
-    failed=$((failed + 1))
-  fi
-}
 
 same_as_example() {
   $schedule <"examples/$1/calls.schedule" | cmp - "examples/$1/lines.txt" &&

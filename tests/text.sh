@@ -3,6 +3,7 @@
 # and that the file it leaves runs to `stop` at the right place. Needs the built programs. Its last line is `N passed, M failed`.
 set -u
 cd "$(dirname "$0")/.." || exit 1
+. tests/counting.sh
 
 write="tools/run write_schedule"
 schedule="tools/run schedule"
@@ -10,22 +11,6 @@ calls="lookup, insert, remove, hand-over, ceil, floor, succ, pred, fast, open, s
 header='capacity 64 start 0\n'
 whole='capacity 64 start 0\ninsert 10 1 0\n'
 signed="a number from -9223372036854775808 to 9223372036854775807 was expected"
-passed=0
-failed=0
-work=$(mktemp -d) || exit 1
-trap 'rm -rf "$work"' EXIT
-
-# Counts a test by whether the command after its name succeeds.
-expect() {
-  local name=$1
-  shift
-  if "$@"; then
-    passed=$((passed + 1))
-  else
-    echo "tests: $name"
-    failed=$((failed + 1))
-  fi
-}
 
 # Makes a schedule file of a text, written as printf has it, and keeps what is told.
 make() {

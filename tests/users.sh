@@ -4,27 +4,12 @@
 # Needs the built programs (rt check). Its last line is `N passed, M failed`.
 set -u
 cd "$(dirname "$0")/.." || exit 1
+. tests/counting.sh
 
-passed=0
-failed=0
-work=$(mktemp -d) || exit 1
-trap 'rm -rf "$work"' EXIT
 root=$work/root
 bin=$root/target/bin
 real_path=$PATH
 mkdir -p "$bin" "$work/stubs" "$work/few" "$work/tmp"
-
-# Counts a test by whether the command after its name succeeds.
-expect() {
-  local name=$1
-  shift
-  if "$@"; then
-    passed=$((passed + 1))
-  else
-    echo "tests: $name"
-    failed=$((failed + 1))
-  fi
-}
 
 # Tries a command for ten seconds until it succeeds.
 in_time() {
