@@ -1,4 +1,6 @@
 // A list of calls, taken as schedule bytes and made one after another, with soundness tested once.
+#![tactic(auto)]
+
 ghost use Rattle.std.specs.Prelude.{◌≡◌, [], ◌∷◌, ◌+◌, ◌*◌, ◌≤◌, min, length, pos};
 ghost use Rattle.lists.specs.Tests.{Says};
 ghost use Rattle.lists.specs.Buffers.{written};
@@ -165,7 +167,7 @@ pub fn tallied_cells(answer: Tallied) -> [i64; 5]
 }
 
 // The calls that leave the tickets and the coordinator alone.
-#[derive(Drop)]
+#[derive(Clone, Copy)]
 pub enum Quiet {
     Lookup(i64),
     Insert(i64, i64, u64),
@@ -179,7 +181,7 @@ pub enum Quiet {
 }
 
 // The calls that may change them.
-#[derive(Drop)]
+#[derive(Clone, Copy)]
 pub enum Ticketed {
     HandOver(Node),
     Open(i64, i64),
@@ -189,7 +191,7 @@ pub enum Ticketed {
 }
 
 // A call by its kind, so that a quiet one carries no copy of the tickets.
-#[derive(Drop)]
+#[derive(Clone, Copy)]
 pub enum Kind {
     Quiet(Quiet),
     Ticketed(Ticketed),
@@ -217,14 +219,14 @@ fn kind_of(call: Call) -> Kind
 }
 
 // The cells of the answer, and how many pairs were handed out.
-#[derive(Drop)]
+#[derive(Clone, Copy)]
 pub struct Reply {
     pub cells: [i64; 5],
     pub pairs: usize,
 }
 
 // The same, and the tickets and the coordinator afterwards.
-#[derive(Drop)]
+#[derive(Clone, Copy)]
 pub struct Turn {
     pub cells: [i64; 5],
     pub pairs: usize,
@@ -495,7 +497,7 @@ fn make_ticketed(
 }
 
 // Why a list ended: no byte is left; the offset that `stop` prints; more bytes are needed to tell; the room might not suffice for the next call; the tables are refused.
-#[derive(Drop)]
+#[derive(Clone, Copy)]
 pub enum End {
     Ended,
     Stop(usize),
@@ -505,7 +507,7 @@ pub enum End {
 }
 
 // What comes next in a list: a call and its length, or the end.
-#[derive(Drop)]
+#[derive(Clone, Copy)]
 pub enum Then {
     Make(Call, usize),
     Over(End),
@@ -641,7 +643,7 @@ fn take_ticketed(
 }
 
 // What a list came to: why it ended, how many bytes, calls and pairs were used, and the tickets and the coordinator afterwards.
-#[derive(Drop)]
+#[derive(Clone, Copy)]
 pub struct Batch {
     pub end: End,
     pub used: usize,

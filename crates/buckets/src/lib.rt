@@ -1,4 +1,6 @@
 // The hash table of the node memory: each bucket has a chain of present nodes. A node is in the bucket of its key.
+#![tactic(auto)]
+
 ghost use Rattle.std.specs.Prelude.{◌≡◌, ◌*◌, ◌<◌, ◌≤◌, length, replicate};
 ghost use Rattle.lists.specs.Tests.{Says};
 ghost use Rattle.rows.specs.Rows.{chains};
@@ -11,14 +13,14 @@ ghost use Rattle.buckets.specs.Testing.{Fits, Walks, presents};
 use rows::{CHAIN, IS_PRESENT, PLACE, cell, put, wide};
 use sizes::bucket_of;
 
-#[derive(Drop)]
+#[derive(Clone, Copy)]
 pub enum Found {
     At(u32),
     Nothing,
 }
 
 // What the test of a chain finds: how much of its budget is left, or that the chain is bad.
-#[derive(Drop)]
+#[derive(Clone, Copy)]
 enum Walked {
     Rest(u32),
     Bad,

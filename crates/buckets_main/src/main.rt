@@ -1,4 +1,6 @@
 // A caller of the hash table: shows that what its functions require can be met, and that its laws give the answers.
+#![tactic(auto)]
+
 ghost use Rattle.std.specs.Prelude.{◌≡◌, true, length, replicate};
 ghost use Rattle.buckets_main.specs.Fresh.{Fresh};
 

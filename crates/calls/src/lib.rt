@@ -1,4 +1,6 @@
 // The entry points: each tests the tables, refuses with 1 where they are not sound, and else makes the call. Nothing is asked of the memory that is lent.
+#![tactic(auto)]
+
 ghost use Rattle.std.specs.Prelude.{true, false, ◌≤◌};
 ghost use Rattle.soundness.specs.Tested.{lent};
 ghost use Rattle.calls.specs.Entries.{Looks, Nears, Tallies, Inserts, Removes, HandsOver, Sweeps, Closes, Opens, Steps, Ranges};

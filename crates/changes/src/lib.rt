@@ -1,4 +1,6 @@
 // The two calls that change the map: insert and remove.
+#![tactic(auto)]
+
 ghost use Rattle.std.specs.Prelude.{◌≡◌, ◌<◌, ◌≤◌};
 ghost use Rattle.levels.specs.Stitch.{Stitchable};
 ghost use Rattle.model.specs.Model.{height_of};

@@ -1,4 +1,6 @@
 // The calls that find and change nothing: lookup; ceil, floor, succ and pred; tally.
+#![tactic(auto)]
+
 ghost use Rattle.std.specs.Prelude.{◌≡◌, ◌≤◌, length};
 ghost use Rattle.sizes.specs.Rank.{rank_of};
 ghost use Rattle.buckets.specs.Finding.{found};

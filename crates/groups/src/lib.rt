@@ -1,4 +1,6 @@
 // Numbers of the schedule file: groups of seven bits, lowest group first, and signed numbers as unsigned ones.
+#![tactic(auto)]
+
 ghost use Rattle.std.specs.Prelude.{◌≡◌, ◌+◌, ◌-◌, ◌*◌, ◌≤◌, ◌<◌, length, drop};
 ghost use Rattle.std.proofs.lemmas.List.Edits.{sets};
 ghost use Rattle.lists.specs.Tests.{Says};
@@ -7,7 +9,7 @@ ghost use Rattle.groups.specs.Buffers.{Writes};
 ghost use Rattle.groups.specs.Signs.{turned, unturned};
 
 // What is written at a place: a number and its length in bytes, only the beginning of a number where the bytes end, or neither.
-#[derive(Drop)]
+#[derive(Clone, Copy)]
 pub enum Number {
     Of(u64, usize),
     CutOff,
@@ -15,7 +17,7 @@ pub enum Number {
 }
 
 // What a writer answers: the length of what it wrote, or 1 where the lent buffer is too short.
-#[derive(Drop)]
+#[derive(Clone, Copy)]
 pub enum Wrote {
     Length(usize),
     Refused(u32),

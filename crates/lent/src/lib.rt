@@ -1,5 +1,7 @@
 // The calls over lent tickets and a lent coordinator: each takes the sixteen tickets and the coordinator by value, makes the call, and puts both back.
 // A run of any other number of tickets is refused, and nothing changes.
+#![tactic(auto)]
+
 ghost use Rattle.std.specs.Prelude.{◌≡◌, true, false, length};
 ghost use Rattle.sizes.specs.Sizes.{size_of};
 ghost use Rattle.soundness.specs.Tested.{lent};
@@ -734,7 +736,7 @@ pub fn fast_range(
 }
 
 // Why a list ended, and how many bytes, calls and pairs were used.
-#[derive(Drop)]
+#[derive(Clone, Copy)]
 pub struct Run {
     pub end: End,
     pub used: usize,
@@ -743,7 +745,7 @@ pub struct Run {
 }
 
 // A run, and the tickets and the coordinator afterwards.
-#[derive(Drop)]
+#[derive(Clone, Copy)]
 struct Ran {
     pub run: Run,
     pub tickets: [Ticket; 16],

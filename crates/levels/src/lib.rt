@@ -1,4 +1,6 @@
 // The levels of the map: doubly linked nodes in the rows of the node memory, on up to twelve levels between two sentinels, the head's row C and the tail's C + 1.
+#![tactic(auto)]
+
 ghost use Rattle.std.specs.Prelude.{◌≡◌, ◌+◌, ◌*◌, ◌≤◌, ◌<◌, length};
 ghost use Rattle.rows.specs.Rows.{links};
 ghost use Rattle.lists.specs.Tests.{Says, Each};
@@ -14,14 +16,14 @@ pub const AFTER: usize = 0;
 pub const BEFORE: usize = 1;
 
 // The node before a place and the node after it.
-#[derive(Drop)]
+#[derive(Clone, Copy)]
 pub struct Pair {
     pub before: u32,
     pub after: u32,
 }
 
 // What a search finds: the pair on each level, and its answer, the pair on the lowest.
-#[derive(Drop)]
+#[derive(Clone, Copy)]
 pub struct Found {
     pub pairs: [Pair; 12],
     pub place: Pair,

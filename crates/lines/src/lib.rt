@@ -1,4 +1,6 @@
 // A part of a schedule file, run as one batch, and the lines that `schedule` prints of it.
+#![tactic(auto)]
+
 ghost use Rattle.std.specs.Prelude.{◌≡◌, List, ℕ, ◌+◌, ◌*◌, ◌^◌, ◌≤◌, ◌<◌, length, get_or, pos};
 ghost use Rattle.listing.specs.Puts.{Room, longest, Put};
 ghost use Rattle.model.specs.Calls.{Call, Answer, pairs_in};
@@ -106,7 +108,7 @@ pub fn put_lines(out: &mut [u8], before: u64, cells: &[i64], keys: &[i64], value
 }
 
 // What a part came to: the batch, and how many bytes its lines take.
-#[derive(Drop)]
+#[derive(Clone, Copy)]
 pub struct Part {
     pub batch: Batch,
     pub length: usize,

@@ -1,4 +1,6 @@
 // The lines that the program `schedule` prints, put as text into a lent buffer. Each function answers the place behind its text.
+#![tactic(auto)]
+
 ghost use Rattle.std.specs.Prelude.{◌≡◌, [], ◌∷◌, ◌++◌, ◌+◌, ◌*◌, ◌%◌, ◌≤◌, length, take, pos};
 ghost use Rattle.listing.specs.Decimals.{digit, digits, integer};
 ghost use Rattle.listing.specs.Lines.{spaced, line, line_after, paired};

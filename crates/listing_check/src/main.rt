@@ -1,5 +1,7 @@
 // Reads the document's listing, and bytes that stop, and writes a line for the header and for each call, held to the file `stdout`.
 // Each header and call is written back, and the line says so where the bytes differ.
+#![tactic(auto)]
+
 ghost use Rattle.std.specs.Prelude.{◌+◌, ◌≤◌, length};
 
 use groups::Wrote;

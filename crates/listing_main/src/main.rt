@@ -1,4 +1,6 @@
 // Prints lines of the forms that `schedule` prints, with both ends of the 64-bit range, and is held to the file stdout.
+#![tactic(auto)]
+
 ghost use Rattle.std.specs.Prelude.{◌≤◌, length};
 
 use libc::STDOUT_FILENO;

@@ -1,1 +1,2 @@
 // Lists and tests: the definitions and the laws that several crates cite. It has no code.
+#![tactic(auto)]

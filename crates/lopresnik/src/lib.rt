@@ -1,4 +1,5 @@
 // The functions of the static library: each lends everything on to the lent form of its call, and answers in plain numbers.
+#![tactic(auto)]
 mod writing;
 
 ghost use Rattle.std.specs.Prelude.{◌≡◌, true, false, [], length};
@@ -26,14 +27,14 @@ const INTERFACE: u32 = 1;
 
 // An answer as the batch lays it down: the call's code, 0 or the refusal, and up to three numbers.
 #[repr(C)]
-#[derive(Drop)]
+#[derive(Clone, Copy)]
 pub struct Answer {
     pub cells: [i64; 5],
 }
 
 // What a list came to: why it ended (0 the list ended, 1 `stop`, 2 more bytes are needed, 3 the room might not suffice, 4 refused), the offset of a stop or the number of a refusal, and how many bytes, calls and pairs were used.
 #[repr(C)]
-#[derive(Drop)]
+#[derive(Clone, Copy)]
 pub struct Ran {
     pub end: u32,
     pub at: usize,

@@ -15,14 +15,14 @@ use transactions::{Call, Header};
 const SMALL: u64 = 4294967295;
 
 // A number below 2^32, where it is one.
-#[derive(Drop)]
+#[derive(Clone, Copy)]
 pub enum Small {
     Of(u32),
     Nothing,
 }
 
 // The call that is asked for, where there is one.
-#[derive(Drop)]
+#[derive(Clone, Copy)]
 pub enum Asked {
     Call(Call),
     Nothing,

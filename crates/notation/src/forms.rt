@@ -15,14 +15,14 @@ const START_NAME: usize = 15;
 pub const UNKNOWN: usize = 15;
 
 // A name: the first letters, as many as its length says.
-#[derive(Drop)]
+#[derive(Clone, Copy)]
 struct Name {
     pub len: usize,
     pub letters: [u8; 9],
 }
 
 // Up to three numbers, 0 where there are fewer.
-#[derive(Drop)]
+#[derive(Clone, Copy)]
 pub struct Three {
     pub first: u64,
     pub second: u64,
@@ -30,14 +30,14 @@ pub struct Three {
 }
 
 // The numbers of a line, or why it has none and the number of the word at fault.
-#[derive(Drop)]
+#[derive(Clone, Copy)]
 pub enum Operands {
     Whole(Three),
     Wrong(Fault, usize),
 }
 
 // How many words stand behind a name, and what each must be.
-#[derive(Drop)]
+#[derive(Clone, Copy)]
 struct Form {
     pub count: usize,
     pub kinds: [u8; 3],

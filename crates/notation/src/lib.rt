@@ -1,4 +1,5 @@
 // A schedule as text for people: one header or call a line, read and written.
+#![tactic(auto)]
 mod forms;
 mod numerals;
 mod putting;
@@ -20,7 +21,7 @@ use sizes::{Node, Version};
 use transactions::{Call, Header};
 
 // Why a line is neither a header nor a call. Out of range: that of a key or value (0), of a coin (1), below 2^32 (2).
-#[derive(Drop)]
+#[derive(Clone, Copy)]
 pub enum Fault {
     UnknownWord,
     NumberMissing,
@@ -31,7 +32,7 @@ pub enum Fault {
 }
 
 // What a line says: nothing where it has no word; a fault with the number of its word, from 0.
-#[derive(Drop)]
+#[derive(Clone, Copy)]
 pub enum Line {
     Nothing,
     Header(Header),

@@ -16,14 +16,14 @@ pub const SMALL: u8 = 2;
 pub const START: u8 = 3;
 
 // A word's number, or why it has none.
-#[derive(Drop)]
+#[derive(Clone, Copy)]
 pub enum Value {
     Of(u64),
     Wrong(Fault),
 }
 
 // What digits are worth, where that is below 2^64.
-#[derive(Drop)]
+#[derive(Clone, Copy)]
 enum Worth {
     Of(u64),
     Great,

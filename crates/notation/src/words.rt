@@ -4,7 +4,7 @@ ghost use Rattle.std.specs.Prelude.{◌≡◌, ◌+◌, ◌≤◌, length, drop}
 ghost use Rattle.notation.specs.Words.{blank, run_of, NextWord, WordAt};
 
 // From a place of a line up to another.
-#[derive(Drop)]
+#[derive(Clone, Copy)]
 pub struct Span {
     pub start: usize,
     pub end: usize,

@@ -1,4 +1,6 @@
 // The one place of each node: the free stack, the ring of retired nodes, and the count of present ones.
+#![tactic(auto)]
+
 ghost use Rattle.std.specs.Prelude.{◌≡◌, ◌<◌, ◌≤◌, length};
 ghost use Rattle.lists.specs.Tests.{Says};
 ghost use Rattle.rows.specs.Rows.{column, places, seats};

@@ -1,4 +1,6 @@
 // A caller of the places: shows that what each change requires can be met, and that the answers are as the lists say.
+#![tactic(auto)]
+
 ghost use Rattle.std.specs.Prelude.{◌≡◌, length};
 
 use check::expect;

@@ -1,4 +1,6 @@
 // Ranges: a range is opened, handed out step by step, and closed.
+#![tactic(auto)]
+
 ghost use Rattle.std.specs.Prelude.{◌≡◌, ◌<◌, ◌≤◌, min, length, take};
 ghost use Rattle.lists.specs.Buffers.{written};
 ghost use Rattle.levels.specs.Levels.{Row};
@@ -49,7 +51,7 @@ fn drop_ticket(tickets: [Ticket; 16], ranges: usize, j: usize) -> [Ticket; 16]
 }
 
 // The answer, and the tickets and the coordinator afterwards.
-#[derive(Drop)]
+#[derive(Clone, Copy)]
 pub struct Close {
     pub answer: Closed,
     pub tickets: [Ticket; 16],
@@ -132,7 +134,7 @@ fn may_rest(rows: &[u32], n: u32, version: u64) -> bool
 }
 
 // How a walk ended: how many pairs it handed out, whether none is left, and where the range rests then.
-#[derive(Drop)]
+#[derive(Clone, Copy)]
 pub struct Walked {
     pub count: usize,
     pub finished: bool,
@@ -191,7 +193,7 @@ fn walk_range(
 }
 
 // The answer, and the tickets afterwards.
-#[derive(Drop)]
+#[derive(Clone, Copy)]
 pub struct Step {
     pub answer: Stepped,
     pub tickets: [Ticket; 16],
@@ -252,7 +254,7 @@ pub fn step_range(
 }
 
 // The answer, and the tickets and the coordinator afterwards.
-#[derive(Drop)]
+#[derive(Clone, Copy)]
 pub struct Open {
     pub answer: Opened,
     pub tickets: [Ticket; 16],

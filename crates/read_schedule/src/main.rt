@@ -1,5 +1,7 @@
 // Reads a schedule file from standard input and writes it as text to standard output. Where the bytes stop making sense, that is told
 // on standard error with their offset, and ends the program; what stands before them has been written.
+#![tactic(auto)]
+
 ghost use Rattle.std.specs.Prelude.{◌≡◌, true, ◌≤◌, length};
 ghost use Rattle.windows.specs.Windows.{Held, left_of};
 
@@ -11,7 +13,7 @@ use windows::{Fetched, Window};
 const ROOM: usize = 4096;
 
 // How far the program is: what is held of the input, whether the header was read, and whether to go on.
-#[derive(Drop)]
+#[derive(Clone, Copy)]
 struct Progress {
     pub window: Window,
     pub header: bool,
@@ -19,7 +21,7 @@ struct Progress {
 }
 
 // The place up to which the bytes held were taken, and whether to go on.
-#[derive(Drop)]
+#[derive(Clone, Copy)]
 struct Taken {
     pub at: usize,
     pub going: bool,

@@ -1,4 +1,6 @@
 // Nodes that come back: a pending node handed over, and a due node swept.
+#![tactic(auto)]
+
 ghost use Rattle.std.specs.Prelude.{◌≡◌, ◌<◌};
 ghost use Rattle.returns.specs.Freeing.{Freeable, freed};
 ghost use Rattle.returns.specs.HandOver.{HandReady, HandedOver};
@@ -20,7 +22,7 @@ fn free_node(rows: &mut [u32], cap: u32, n: u32)
 }
 
 // The answer, and the tickets afterwards.
-#[derive(Drop)]
+#[derive(Clone, Copy)]
 pub struct HandOver {
     pub answer: Handed,
     pub tickets: [Ticket; 16],
@@ -79,7 +81,7 @@ pub fn hand_over(
 }
 
 // The answer, and the coordinator afterwards.
-#[derive(Drop)]
+#[derive(Clone, Copy)]
 pub struct Sweep {
     pub answer: Swept,
     pub coordinator: Coordinator,

@@ -1,4 +1,6 @@
 // The rows of the node memory. A node and each sentinel has 32 cells: eight fields, then its links on twelve levels.
+#![tactic(auto)]
+
 ghost use Rattle.std.specs.Prelude.{◌≡◌, ◌+◌, ◌*◌, ◌≤◌, ◌<◌, length};
 ghost use Rattle.rows.specs.Rows.{address, column, put};
 

@@ -1,4 +1,6 @@
 // Runs a schedule file of any length from standard input and prints a line for each transaction, as document 01 says.
+#![tactic(auto)]
+
 ghost use Rattle.std.specs.Prelude.{◌≡◌, ◌≤◌, min, length};
 ghost use Rattle.sizes.specs.Sizes.{size_of};
 ghost use Rattle.listing.specs.Puts.{Room, Put};
@@ -33,7 +35,7 @@ const OUTPUT: usize = 262144;
 // ---- set-up
 
 // How the memory is cut.
-#[derive(Drop)]
+#[derive(Clone, Copy)]
 struct Lengths {
     nodes: usize,
     rows: usize,
@@ -65,7 +67,7 @@ fn lengths_of(capacity: u32) -> Lengths
 }
 
 // What set-up came to: its result, how the memory is cut, and what is lent by value.
-#[derive(Drop)]
+#[derive(Clone, Copy)]
 struct Prepared {
     result: u64,
     lengths: Lengths,
@@ -128,7 +130,7 @@ fn prepare(
 
 // What is carried from turn to turn: whether the header was read, how the memory is cut then, what is lent by value, what is held of the input, and
 // how many calls were made.
-#[derive(Drop)]
+#[derive(Clone, Copy)]
 struct Session {
     begun: bool,
     lengths: Lengths,
@@ -139,7 +141,7 @@ struct Session {
 }
 
 // What comes behind a turn: another, another once more was read, nothing, or nothing since the tables are not sound.
-#[derive(Drop)]
+#[derive(Clone, Copy)]
 enum Next {
     On,
     Read,
@@ -148,7 +150,7 @@ enum Next {
 }
 
 // What a turn came to: what is carried on, how many bytes it laid down to be printed, and what comes next.
-#[derive(Drop)]
+#[derive(Clone, Copy)]
 struct Turned {
     session: Session,
     length: usize,

@@ -1,26 +1,28 @@
 // The capacities that a map may have, versions and node numbers, and a signed key as a rank with its bucket.
+#![tactic(auto)]
+
 ghost use Rattle.std.specs.Prelude.{◌≡◌, ◌+◌, ◌*◌, ◌%◌, ◌<◌};
 ghost use Rattle.sizes.specs.Sizes.{size_of};
 ghost use Rattle.sizes.specs.Rank.{rank_of, key_of, pattern_of, bucket_of};
 
 // A version, which is only ever compared with a version.
 #[repr(C)]
-#[derive(Drop)]
+#[derive(Clone, Copy)]
 pub struct Version(pub u32);
 
 // The number of a node.
 #[repr(C)]
-#[derive(Drop)]
+#[derive(Clone, Copy)]
 pub struct Node(pub u32);
 
-#[derive(Drop)]
+#[derive(Clone, Copy)]
 pub struct Size {
     pub capacity: u32,
     pub levels: u32,
     pub buckets: u32,
 }
 
-#[derive(Drop)]
+#[derive(Clone, Copy)]
 pub enum Sized {
     Of(Size),
     Nothing,

@@ -1,4 +1,6 @@
 // The test whether tables are sound, on any memory, and set-up.
+#![tactic(auto)]
+
 ghost use Rattle.std.specs.Prelude.{◌≡◌, ◌+◌, ◌*◌, ◌<◌, ◌≤◌, length, get_or, take, drop};
 ghost use Rattle.lists.specs.Holds.{All};
 ghost use Rattle.lists.specs.Tests.{Says};
@@ -281,7 +283,7 @@ pub fn sound(
 }
 
 // The answer of set-up, and the tickets and the coordinator afterwards.
-#[derive(Drop)]
+#[derive(Clone, Copy)]
 pub struct Prepared {
     pub answer: SetUp,
     pub tickets: [Ticket; 16],

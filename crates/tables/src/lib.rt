@@ -1,4 +1,6 @@
 // The lent tables: what a ticket and the coordinator hold, and the readers of a node's row that several calls share.
+#![tactic(auto)]
+
 ghost use Rattle.std.specs.Prelude.{◌≡◌, ◌+◌, ◌*◌, ◌≤◌, length};
 ghost use Rattle.rows.specs.Rows.{insertions, removals};
 ghost use Rattle.tables.specs.Tables.{levels_of, no_ticket, version};
@@ -7,7 +9,7 @@ use sizes::{Node, Version};
 
 // An open range: its version, its bounds as ranks, the node that it rests on or the tail, and how many nodes are on its list.
 #[repr(C)]
-#[derive(Drop)]
+#[derive(Clone, Copy)]
 pub struct Ticket {
     pub version: Version,
     pub low: u64,
@@ -18,7 +20,7 @@ pub struct Ticket {
 
 // The version counter, how many ranges are open, and how many nodes are due.
 #[repr(C)]
-#[derive(Drop)]
+#[derive(Clone, Copy)]
 pub struct Coordinator {
     pub counter: Version,
     pub ranges: u32,

@@ -1,4 +1,6 @@
 // The lent run of tickets: all sixteen taken out by value, and stored back.
+#![tactic(auto)]
+
 ghost use Rattle.std.specs.Prelude.{◌≡◌};
 ghost use Rattle.tickets.specs.Sixteen.{loaded, stored};
 

@@ -1,5 +1,7 @@
 // The open tickets of a lent run: one found by its version, one moved on, one removed at close.
 // They are the first of the run, where it has sixteen tickets; a run of any other number has none, and is left as it is.
+#![tactic(auto)]
+
 ghost use Rattle.std.specs.Prelude.{◌≡◌, ◌<◌, ◌≤◌, length};
 ghost use Rattle.ranges.specs.Tickets.{slide};
 ghost use Rattle.tickets_open.specs.Open.{open_in, found_in, found, moved_in, moved, removed_in, removed};
@@ -9,14 +11,14 @@ use tables::Ticket;
 use tickets::{load16, store16};
 
 // Where a ticket is.
-#[derive(Drop)]
+#[derive(Clone, Copy)]
 pub enum Place {
     At(usize),
     Nothing,
 }
 
 // Whether there was such a ticket, and the tickets afterwards.
-#[derive(Drop)]
+#[derive(Clone, Copy)]
 struct Changed {
     pub answer: bool,
     pub tickets: [Ticket; 16],

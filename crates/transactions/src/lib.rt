@@ -1,4 +1,6 @@
 // The schedule file: its header and its calls, read from bytes and written to a lent buffer.
+#![tactic(auto)]
+
 ghost use Rattle.std.specs.Prelude.{◌≡◌, [], ◌∷◌, ◌≤◌, ◌<◌, length, take, drop, set, replicate};
 ghost use Rattle.std.proofs.lemmas.List.Edits.{sets};
 ghost use Rattle.groups.specs.Buffers.{Writes};
@@ -16,14 +18,14 @@ const ANY: u64 = 18446744073709551615;
 const SMALL: u64 = 4294967295;
 
 // The capacity and the start version.
-#[derive(Drop)]
+#[derive(Clone, Copy)]
 pub struct Header {
     pub capacity: u32,
     pub start: Version,
 }
 
 // The calls, in the order of their codes.
-#[derive(Drop)]
+#[derive(Clone, Copy)]
 pub enum Call {
     Lookup(i64),
     Insert(i64, i64, u64),
@@ -42,14 +44,14 @@ pub enum Call {
 }
 
 // A call and its length, the offset at which the bytes stop making sense, or that more bytes are needed to tell.
-#[derive(Drop)]
+#[derive(Clone, Copy)]
 pub enum Reading {
     Call(Call, usize),
     Stop(usize),
     More,
 }
 
-#[derive(Drop)]
+#[derive(Clone, Copy)]
 pub enum HeaderReading {
     Header(Header, usize),
     Stop(usize),
@@ -57,7 +59,7 @@ pub enum HeaderReading {
 }
 
 // Up to three numbers, 0 where there are fewer.
-#[derive(Drop)]
+#[derive(Clone, Copy)]
 struct Three {
     pub first: u64,
     pub second: u64,
@@ -65,7 +67,7 @@ struct Three {
 }
 
 // Numbers and the place behind them, or why there are none.
-#[derive(Drop)]
+#[derive(Clone, Copy)]
 enum Numbers {
     Whole(Three, usize),
     Stop(usize),
@@ -73,14 +75,14 @@ enum Numbers {
 }
 
 // How many numbers follow a code, and the greatest value of each of them.
-#[derive(Drop)]
+#[derive(Clone, Copy)]
 struct Operands {
     pub count: usize,
     pub most: u64,
 }
 
 // Numbers to be written one after another: the first count of them.
-#[derive(Drop)]
+#[derive(Clone, Copy)]
 struct Coded {
     pub count: usize,
     pub of: [u64; 4],

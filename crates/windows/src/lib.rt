@@ -1,4 +1,6 @@
 // What a program holds of standard input: a part of a buffer that it lends, and how far the input was read.
+#![tactic(auto)]
+
 ghost use Rattle.std.specs.Prelude.{◌≡◌, ◌+◌, ◌-◌, ◌^◌, ◌≤◌, min, length, take, drop};
 ghost use Rattle.lists.specs.Tests.{Says};
 ghost use Rattle.windows.specs.Windows.{unread, count_of, place_of, behind, Readable, FetchedBy};
@@ -9,7 +11,7 @@ use libc::{STDERR_FILENO, STDIN_FILENO};
 const LAST: u64 = 18446744073709551615;
 
 // The bytes of a buffer from one place up to another, how many bytes were read in all, and whether more may follow.
-#[derive(Drop)]
+#[derive(Clone, Copy)]
 pub struct Window {
     pub from: usize,
     pub to: usize,
@@ -17,7 +19,7 @@ pub struct Window {
     pub more: bool,
 }
 
-#[derive(Drop)]
+#[derive(Clone, Copy)]
 pub enum Fetched {
     Held(Window),
     Failed,

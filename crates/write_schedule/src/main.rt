@@ -1,5 +1,7 @@
 // Reads a schedule as text from standard input and writes it as a schedule file to standard output. A fault is told on standard
 // error with its line and its word, and ends the program: behind what was written before it stands a byte at which the file stops.
+#![tactic(auto)]
+
 ghost use Rattle.std.specs.Prelude.{◌≡◌, ◌≤◌, length};
 
 use groups::Wrote;
@@ -13,7 +15,7 @@ const LONGEST: usize = 4096;
 const CHUNK: usize = 4096;
 
 // How far the program is: the number of the next line, whether the header was read, and whether to go on.
-#[derive(Drop)]
+#[derive(Clone, Copy)]
 struct Progress {
     pub line: u64,
     pub header: bool,
@@ -21,7 +23,7 @@ struct Progress {
 }
 
 // How many bytes of a line stand in the line's buffer, and how far the program is before that line.
-#[derive(Drop)]
+#[derive(Clone, Copy)]
 struct Begun {
     pub filled: usize,
     pub progress: Progress,

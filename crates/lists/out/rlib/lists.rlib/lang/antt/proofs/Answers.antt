@@ -1,7 +1,7 @@
 -- Laws of `Says`: an answer of a test, and of a loop that tests each index below n.
 --     no, yes          the answer false where P is refuted, true where P is shown
 --     failed, passed   of `if !test(..) { return false; }`: what the two ways tell, with `c.if1.taken` and `c.if1.left`
---     none_yet, one_more, all-no, all_yes    a loop that tests P at 0, 1, .. and stops at the first that fails: its invariant `Each i P` where it begins
+--     none_yet, one_more, all_no, all_yes    a loop that tests P at 0, 1, .. and stops at the first that fails: its invariant `Each i P` where it begins
 --                      and after a turn, and its two answers
 --     over             an answer to P is one to Q, where P and Q come to the same
 -- Assumes nothing.
@@ -39,8 +39,8 @@ module _ (P : ℕ → Type 0) where
   pub one_more : {i : ℕ} → Each i P → P i → Each (i + 1) P
   one_more {i} all here = below_more P i all here
 
-  pub all-no : {n i : ℕ} → i < n → (P i → ⊥) → Says false (Each n P)
-  all-no {n} {i} l h = no (λ all. h (all i l))
+  pub all_no : {n i : ℕ} → i < n → (P i → ⊥) → Says false (Each n P)
+  all_no {n} {i} l h = no (λ all. h (all i l))
 
   pub all_yes : {n i : ℕ} → n ≤ i → Each i P → Says true (Each n P)
   all_yes g all = yes! (λ k l. all k (lt_of_lt_of_le l g))

@@ -11,11 +11,11 @@ module _ {P : Type 0} {a b : ℕ} where
   pub says_eq : (a ≡ b → P) → (P → a ≡ b) → Says (eqb a b) P
   says_eq f g = record { holds = λ e. f (eqb-true a b e); told = λ p. eq-eqb a b (g p) }
 
-  pub says-le : (a ≤ b → P) → (P → a ≤ b) → Says (leb a b) P
-  says-le f g = record { holds = λ e. f (leb-true a b e); told = λ p. le-leb a b (g p) }
+  pub says_le : (a ≤ b → P) → (P → a ≤ b) → Says (leb a b) P
+  says_le f g = record { holds = λ e. f (leb-true a b e); told = λ p. le-leb a b (g p) }
 
-  pub says-lt : (a < b → P) → (P → a < b) → Says (ltb a b) P
-  says-lt f g = record { holds = λ e. f (ltb-true a b e); told = λ p. lt-ltb a b (g p) }
+  pub says_lt : (a < b → P) → (P → a < b) → Says (ltb a b) P
+  says_lt f g = record { holds = λ e. f (ltb-true a b e); told = λ p. lt-ltb a b (g p) }
 
 -- LAW: two answers of a test are equal
 pub one_answer : {P : Type 0} (r s : Bool) → Says r P → Says s P → r ≡ s

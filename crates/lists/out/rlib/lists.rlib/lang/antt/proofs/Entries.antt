@@ -15,5 +15,5 @@ module _ {A : Type 0} where
   all_get_d P d (x ∷ xs) h a (suc i) = all_get_d P d xs h a.1 i
 
   -- LAW: a test over the whole table, computed, holds at each entry
-  pub tested-getD : (p : A → Bool) (d : A) (xs : List A) → p d ≡ true → every p xs ≡ true → (i : ℕ) → p (get_or xs i d) ≡ true
-  tested-getD p d xs h e i = all_get_d (λ x. p x ≡ true) d xs h (all_tested p xs e) i
+  pub tested_get_d : (p : A → Bool) (d : A) (xs : List A) → p d ≡ true → every p xs ≡ true → (i : ℕ) → p (get_or xs i d) ≡ true
+  tested_get_d p d xs h e i = all_get_d (λ x. p x ≡ true) d xs h (all_tested p xs e) i

@@ -1,8 +1,8 @@
 -- The pigeonhole principle on lists of numbers.
 --     room       a list of distinct numbers below c has at most c
 --     covers     where it has c of them, each number below c is among them
---     decIn      membership is decided
---     in-append, distinct_append    of two lists joined
+--     dec_in      membership is decided
+--     in_append, distinct_append    of two lists joined
 --     fits       a list of distinct members of ys is no longer than ys
 --     fills      where it is no shorter, it has every member of ys
 -- Assumes nothing.
@@ -24,48 +24,48 @@ abbrev pub del : ℕ → List ℕ → List ℕ
 del y [] = []
 del y (x ∷ xs) = keep {y = y} {x = x} (ℕ_discrete x y) xs (del y xs)
 
-del-length : (y : ℕ) (xs : List ℕ) → length xs ≤ suc (length (del y xs))
-del-length y [] = omega arith
-del-length y (x ∷ xs) = go (ℕ_discrete x y) (del-length y xs)
+del_length : (y : ℕ) (xs : List ℕ) → length xs ≤ suc (length (del y xs))
+del_length y [] = omega arith
+del_length y (x ∷ xs) = go (ℕ_discrete x y) (del_length y xs)
   where
     go : (d : Dec (x ≡ y)) → length xs ≤ suc (length (del y xs)) → suc (length xs) ≤ suc (length (keep {y = y} {x = x} d xs (del y xs)))
     go (yes e) h = omega arith
     go (no n) h = omega arith
 
-pub del-in : (y x : ℕ) (xs : List ℕ) → In x (del y xs) → In x xs
-del-in y x [] i = i
-del-in y x (a ∷ xs) i = go (ℕ_discrete a y) (del-in y x xs) i
+pub del_in : (y x : ℕ) (xs : List ℕ) → In x (del y xs) → In x xs
+del_in y x [] i = i
+del_in y x (a ∷ xs) i = go (ℕ_discrete a y) (del_in y x xs) i
   where
     go : (d : Dec (a ≡ y)) → (In x (del y xs) → In x xs) → In x (keep {y = y} {x = a} d xs (del y xs)) → (x ≡ a) ⊎ In x xs
     go (yes e) h i = inr i
     go (no n) h i = ⊎_elim (λ e. inl e) (λ j. inr (h j)) i
 
-pub del-not : (y x : ℕ) (xs : List ℕ) → Distinct xs → In x (del y xs) → x ≡ y → ⊥
-del-not y x [] d i e = i
-del-not y x (a ∷ xs) d i e = go (ℕ_discrete a y) (del-not y x xs d.1) i
+pub del_not : (y x : ℕ) (xs : List ℕ) → Distinct xs → In x (del y xs) → x ≡ y → ⊥
+del_not y x [] d i e = i
+del_not y x (a ∷ xs) d i e = go (ℕ_discrete a y) (del_not y x xs d.1) i
   where
     go : (w : Dec (a ≡ y)) → (In x (del y xs) → x ≡ y → ⊥) → In x (keep {y = y} {x = a} w xs (del y xs)) → ⊥
     go (yes f) h i = d.0 (subst (λ (z : ℕ). In z xs) (e ∙ sym f) i)
     go (no n) h i = ⊎_elim (λ f. n (sym f ∙ e)) (λ j. h j e) i
 
-del-distinct : (y : ℕ) (xs : List ℕ) → Distinct xs → Distinct (del y xs)
-del-distinct y [] d = tt
-del-distinct y (a ∷ xs) d = go (ℕ_discrete a y) (del-distinct y xs d.1)
+del_distinct : (y : ℕ) (xs : List ℕ) → Distinct xs → Distinct (del y xs)
+del_distinct y [] d = tt
+del_distinct y (a ∷ xs) d = go (ℕ_discrete a y) (del_distinct y xs d.1)
   where
     go : (w : Dec (a ≡ y)) → Distinct (del y xs) → Distinct (keep {y = y} {x = a} w xs (del y xs))
     go (yes f) h = d.1
-    go (no n) h = (λ i. d.0 (del-in y a xs i), h)
+    go (no n) h = (λ i. d.0 (del_in y a xs i), h)
 
 pub room : (c : ℕ) (xs : List ℕ) → Distinct xs → ((x : ℕ) → In x xs → x < c) → length xs ≤ c
 room zero [] d b = omega arith
 room zero (x ∷ xs) d b = absurd (let l = b x (inl refl) in omega arith)
 room (suc c) xs d b =
-    let ih = room c (del c xs) (del-distinct c xs d) (λ x i. let l = b x (del-in c x xs i) in let n = del-not c x xs d i in omega arith) in
-    omega (arith, del-length c xs)
+    let ih = room c (del c xs) (del_distinct c xs d) (λ x i. let l = b x (del_in c x xs i) in let n = del_not c x xs d i in omega arith) in
+    omega (arith, del_length c xs)
 
-pub decIn : (x : ℕ) (xs : List ℕ) → Dec (In x xs)
-decIn x [] = no (λ i. i)
-decIn x (y ∷ ys) = go (ℕ_discrete x y) (decIn x ys)
+pub dec_in : (x : ℕ) (xs : List ℕ) → Dec (In x xs)
+dec_in x [] = no (λ i. i)
+dec_in x (y ∷ ys) = go (ℕ_discrete x y) (dec_in x ys)
   where
     go : Dec (x ≡ y) → Dec (In x ys) → Dec ((x ≡ y) ⊎ In x ys)
     go (yes e) d = yes (inl e)
@@ -73,21 +73,21 @@ decIn x (y ∷ ys) = go (ℕ_discrete x y) (decIn x ys)
     go (no n) (no m) = no (λ i. ⊎_elim n m i)
 
 pub covers : (c : ℕ) (xs : List ℕ) → Distinct xs → ((x : ℕ) → In x xs → x < c) → c ≤ length xs → (n : ℕ) → n < c → In n xs
-covers c xs d b l n h = go (decIn n xs)
+covers c xs d b l n h = go (dec_in n xs)
   where
     go : Dec (In n xs) → In n xs
     go (yes i) = i
     go (no m) =
         absurd (let r = room c (n ∷ xs) (m, d) (λ x i. ⊎_elim (λ e. subst (λ (z : ℕ). z < c) (sym e) h) (λ j. b x j) i) in omega arith)
 
-pub in-append : (x : ℕ) (xs ys : List ℕ) → In x (xs ++ ys) → In x xs ⊎ In x ys
-in-append x [] ys i = inr i
-in-append x (a ∷ xs) ys i = ⊎_elim (λ e. inl (inl e)) (λ j. ⊎_elim (λ k. inl (inr k)) (λ k. inr k) (in-append x xs ys j)) i
+pub in_append : (x : ℕ) (xs ys : List ℕ) → In x (xs ++ ys) → In x xs ⊎ In x ys
+in_append x [] ys i = inr i
+in_append x (a ∷ xs) ys i = ⊎_elim (λ e. inl (inl e)) (λ j. ⊎_elim (λ k. inl (inr k)) (λ k. inr k) (in_append x xs ys j)) i
 
 pub distinct_append : (xs ys : List ℕ) → Distinct xs → Distinct ys → ((x : ℕ) → In x xs → In x ys → ⊥) → Distinct (xs ++ ys)
 distinct_append [] ys d e apart = e
 distinct_append (a ∷ xs) ys d e apart = (
-  λ i. ⊎_elim (λ j. d.0 j) (λ j. apart a (inl refl) j) (in-append a xs ys i),
+  λ i. ⊎_elim (λ j. d.0 j) (λ j. apart a (inl refl) j) (in_append a xs ys i),
   distinct_append xs ys d.1 e (λ x i j. apart x (inr i) j),
 )
 
@@ -100,18 +100,18 @@ in_right x [] ys i = i
 in_right x (a ∷ xs) ys i = inr (in_right x xs ys i)
 
 -- a member is gone, and every other is still there
-del-less : (y : ℕ) (xs : List ℕ) → In y xs → suc (length (del y xs)) ≤ length xs
-del-less y [] i = absurd i
-del-less y (x ∷ xs) i = go (ℕ_discrete x y) (del-less y xs) i
+del_less : (y : ℕ) (xs : List ℕ) → In y xs → suc (length (del y xs)) ≤ length xs
+del_less y [] i = absurd i
+del_less y (x ∷ xs) i = go (ℕ_discrete x y) (del_less y xs) i
   where
     go : (d : Dec (x ≡ y)) → (In y xs → suc (length (del y xs)) ≤ length xs) → (y ≡ x) ⊎ In y xs → suc (length (keep {y = y} {x = x} d xs (del y xs))) ≤ suc (length xs)
     go (yes e) h i = omega arith
     go (no n) h (inl e) = absurd (n (sym e))
     go (no n) h (inr j) = let l = h j in omega arith
 
-pub in-del : (x y : ℕ) (xs : List ℕ) → In x xs → (x ≡ y → ⊥) → In x (del y xs)
-in-del x y [] i n = absurd i
-in-del x y (a ∷ xs) i n = go (ℕ_discrete a y) (λ j. in-del x y xs j n) i
+pub in_del : (x y : ℕ) (xs : List ℕ) → In x xs → (x ≡ y → ⊥) → In x (del y xs)
+in_del x y [] i n = absurd i
+in_del x y (a ∷ xs) i n = go (ℕ_discrete a y) (λ j. in_del x y xs j n) i
   where
     go : (d : Dec (a ≡ y)) → (In x xs → In x (del y xs)) → (x ≡ a) ⊎ In x xs → In x (keep {y = y} {x = a} d xs (del y xs))
     go (yes e) h (inl f) = absurd (n (f ∙ e))
@@ -122,11 +122,11 @@ in-del x y (a ∷ xs) i n = go (ℕ_discrete a y) (λ j. in-del x y xs j n) i
 pub fits : (xs ys : List ℕ) → Distinct xs → ((x : ℕ) → In x xs → In x ys) → length xs ≤ length ys
 fits [] ys d s = omega arith
 fits (x ∷ xs) ys d s =
-    let ih = fits xs (del x ys) d.1 (λ z i. in-del z x ys (s z (inr i)) (λ e. d.0 (subst (λ (w : ℕ). In w xs) e i))) in
-    omega (arith, del-less x ys (s x (inl refl)))
+    let ih = fits xs (del x ys) d.1 (λ z i. in_del z x ys (s z (inr i)) (λ e. d.0 (subst (λ (w : ℕ). In w xs) e i))) in
+    omega (arith, del_less x ys (s x (inl refl)))
 
 pub fills : (xs ys : List ℕ) → Distinct xs → ((x : ℕ) → In x xs → In x ys) → length ys ≤ length xs → (y : ℕ) → In y ys → In y xs
-fills xs ys d s l y i = go (decIn y xs)
+fills xs ys d s l y i = go (dec_in y xs)
   where
     go : Dec (In y xs) → In y xs
     go (yes j) = j

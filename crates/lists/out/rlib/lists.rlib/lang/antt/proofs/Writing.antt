@@ -13,31 +13,31 @@ module _ {A : Type 0} where
   unfolding written
   written_none out at = let e : at + 0 ≡ at = omega arith in rw e (take-append-drop at out)
 
-  pub written-length : (out : List A) (at : ℕ) (s : List A) → at + length s ≤ length out → length (written out at s) ≡ length out
+  pub written_length : (out : List A) (at : ℕ) (s : List A) → at + length s ≤ length out → length (written out at s) ≡ length out
   unfolding written
-  written-length out at s h = simp (length-append, length-take, length-drop) (omega arith)
+  written_length out at s h = simp (length-append, length-take, length-drop) (omega arith)
 
   front : (out : List A) (at : ℕ) (s : List A) → at + length s ≤ length out → length (take at out ++ s) ≡ at + length s
   front out at s h = simp (length-append, length-take) (omega arith)
 
   -- LAW: what stands in front, with the text; and what stands behind it
-  pub written-front : (out : List A) (at : ℕ) (s : List A) → at + length s ≤ length out → take (at + length s) (written out at s) ≡ take at out ++ s
+  pub written_front : (out : List A) (at : ℕ) (s : List A) → at + length s ≤ length out → take (at + length s) (written out at s) ≡ take at out ++ s
   unfolding written
-  written-front out at s h = rw (← append_assoc (take at out) s (drop (at + length s) out)) (take_at _ _ _ (front out at s h))
+  written_front out at s h = rw (← append_assoc (take at out) s (drop (at + length s) out)) (take_at _ _ _ (front out at s h))
 
   pub written_behind : (out : List A) (at : ℕ) (s : List A) → at + length s ≤ length out → drop (at + length s) (written out at s) ≡ drop (at + length s) out
   unfolding written
   written_behind out at s h = rw (← append_assoc (take at out) s (drop (at + length s) out)) (drop_at (take at out ++ s) _ _ (front out at s h))
 
   -- LAW: one text behind another is both as one text
-  pub written-append : (out : List A) (at : ℕ) (s t : List A) → at + length s ≤ length out
+  pub written_append : (out : List A) (at : ℕ) (s t : List A) → at + length s ≤ length out
       → written (written out at s) (at + length s) t ≡ written out at (s ++ t)
   unfolding written
-  written-append out at s t h =
+  written_append out at s t h =
       let e : at + length s + length t ≡ at + length (s ++ t) = rw (length-append s t) (omega arith) in
       let b : drop (at + length s + length t) (written out at s) ≡ drop (at + length (s ++ t)) out =
       sym (drop-drop (length t) (at + length s) (written out at s)) ∙ rw (written_behind out at s h, drop-drop, e) in
-      rw (written-front out at s h, b) (simp append_assoc)
+      rw (written_front out at s h, b) (simp append_assoc)
 
   pub written_one : (out : List A) (at : ℕ) (b : A) → at < length out → set out at b ≡ written out at (b ∷ [])
   unfolding written
