@@ -7,7 +7,7 @@ use Rattle.sizes.proofs.pattern.Tie as tie
 use Rattle.sizes.proofs.pattern.Reads as reads
 use Rattle.sizes.proofs.pattern.Lts as lts
 
-add-result : tie.Need-overflow-add-result
+add-result : tie.Need-overflow_add-result
 add-result c = search rules
 
 returns : tie.Need-returns

@@ -8,16 +8,16 @@ use Rattle.lists.proofs.Signs.{neg, nonneg}
 use Rattle.sizes.proofs.rank.Statement.{statement}
 use Rattle.sizes.proofs.rank.Tie as tie
 
-cast-result : tie.Need-overflow-cast-result
+cast-result : tie.Need-overflow_cast-result
 cast-result c = let h = neg c.before.args.k c.before.ranges.k c.if1.true in (rw h.flip tt, rw h.flip (record { fits = omega (arith, h.small) }))
 
-sub-result : tie.Need-overflow-sub-result
+sub-result : tie.Need-overflow_sub-result
 sub-result c = let h = neg c.before.args.k c.before.ranges.k c.if1.true in rw h.flip (omega (arith, h.small))
 
 cast-result-2 : tie.Need-overflow-cast-result-2
 cast-result-2 c = let h = nonneg c.before.args.k c.before.ranges.k c.if1.false in (rw h.same tt, rw h.same (record { fits = omega (arith, h.small) }))
 
-add-result : tie.Need-overflow-add-result
+add-result : tie.Need-overflow_add-result
 add-result c = let h = nonneg c.before.args.k c.before.ranges.k c.if1.false in rw h.same (record { fits = omega (arith, h.small) })
 
 returns : tie.Need-returns

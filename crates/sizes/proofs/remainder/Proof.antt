@@ -13,25 +13,25 @@ use Rattle.sizes.proofs.remainder_367.Reads as remainder-367-reads
 use Rattle.sizes.proofs.remainder_733.Reads as remainder-733-reads
 use Rattle.sizes.proofs.remainder_97.Reads as remainder-97-reads
 
-remainder-2927-requires : tie.Need-remainder-2927-requires
+remainder-2927-requires : tie.Need-remainder_2927-requires
 remainder-2927-requires c κs = search rules
 
-remainder-1471-requires : tie.Need-remainder-1471-requires
+remainder-1471-requires : tie.Need-remainder_1471-requires
 remainder-1471-requires c κs = search rules
 
-remainder-733-requires : tie.Need-remainder-733-requires
+remainder-733-requires : tie.Need-remainder_733-requires
 remainder-733-requires c κs = search rules
 
-remainder-367-requires : tie.Need-remainder-367-requires
+remainder-367-requires : tie.Need-remainder_367-requires
 remainder-367-requires c κs = search rules
 
-remainder-191-requires : tie.Need-remainder-191-requires
+remainder-191-requires : tie.Need-remainder_191-requires
 remainder-191-requires c κs = search rules
 
-remainder-97-requires : tie.Need-remainder-97-requires
+remainder-97-requires : tie.Need-remainder_97-requires
 remainder-97-requires c κs = search rules
 
-rem-result : tie.Need-nonzero-rem-result
+rem-result : tie.Need-nonzero_rem-result
 rem-result c = search rules
 
 returns : tie.Need-returns

@@ -34,7 +34,7 @@ returns : tie.Need-returns invariant-loop decreases-loop
 returns c = seek_here sizes _ _ c.before.before.before.loop-test.true c.if1.true ∙ c.before.before.before.before.loop.invariant.1
 
 -- src/lib.rt:36:9
-add-i : tie.Need-overflow-add-i invariant-loop decreases-loop
+add-i : tie.Need-overflow_add-i invariant-loop decreases-loop
 add-i c = search rules
 
 -- src/lib.rt:31:5

@@ -6,13 +6,13 @@ use borrow.Author.Rules.{rules}
 use Rattle.sizes.proofs.unrank.Statement.{statement}
 use Rattle.sizes.proofs.unrank.Tie as tie
 
-sub-m : tie.Need-overflow-sub-m
+sub-m : tie.Need-overflow_sub-m
 sub-m c = search rules
 
-cast-m : tie.Need-overflow-cast-m
+cast-m : tie.Need-overflow_cast-m
 cast-m c = search rules
 
-cast-result : tie.Need-overflow-cast-result
+cast-result : tie.Need-overflow_cast-result
 cast-result c = search rules
 
 returns : tie.Need-returns
