@@ -1,0 +1,30 @@
+-- `sizes::remainder` meets its contract.
+use borrow.Author.Rules.{rules}
+use Rattle.sizes.proofs.Ranking.{by_halves}
+use Rattle.sizes.proofs.remainder.Reads as reads
+use Rattle.sizes.proofs.remainder.Lts as lts
+use Rattle.sizes.proofs.remainder_1471.Reads as remainder-1471-reads
+use Rattle.sizes.proofs.remainder_191.Reads as remainder-191-reads
+use Rattle.sizes.proofs.remainder_2927.Reads as remainder-2927-reads
+use Rattle.sizes.proofs.remainder_367.Reads as remainder-367-reads
+use Rattle.sizes.proofs.remainder_733.Reads as remainder-733-reads
+use Rattle.sizes.proofs.remainder_97.Reads as remainder-97-reads
+use Rattle.sizes.proofs.remainder.Goals as goal
+
+pub returns-in-2927 : goal.returns-in-2927
+returns-in-2927 c = by_halves _ _ _ _ c.remainder_2927.ensures c.in-2927.is
+
+pub returns-in-1471 : goal.returns-in-1471
+returns-in-1471 c = by_halves _ _ _ _ c.remainder_1471.ensures c.in-1471.is
+
+pub returns-in-733 : goal.returns-in-733
+returns-in-733 c = by_halves _ _ _ _ c.remainder_733.ensures c.in-733.is
+
+pub returns-in-367 : goal.returns-in-367
+returns-in-367 c = by_halves _ _ _ _ c.remainder_367.ensures c.in-367.is
+
+pub returns-in-191 : goal.returns-in-191
+returns-in-191 c = by_halves _ _ _ _ c.remainder_191.ensures c.in-191.is
+
+pub returns-in-97 : goal.returns-in-97
+returns-in-97 c = by_halves _ _ _ _ c.remainder_97.ensures c.in-97.is
