@@ -1,13 +1,12 @@
 -- Laws of `Says`: an answer of a test, and of a loop that tests each index below n.
 --     no, yes          the answer false where P is refuted, true where P is shown
---     failed, passed   of `if !test(..) { return false; }`: what the two ways tell, with `c.if1.taken` and `c.if1.left`
+--     failed, passed   of `if !test(..) { return false; }`: what the two ways tell, with the test's `.true` and `.false`
 --     none_yet, one_more, all_no, all_yes    a loop that tests P at 0, 1, .. and stops at the first that fails: its invariant `Each i P` where it begins
 --                      and after a turn, and its two answers
 --     over             an answer to P is one to Q, where P and Q come to the same
 -- Assumes nothing.
 use mathlib.Core.Path.{◌≡◌, refl, sym, ◌∙◌}
-use mathlib.Core.Bool.{Bool, true, false, not, true≢false}
-use borrow.Author.Tests.{not-true, not-false}
+use mathlib.Core.Bool.{Bool, true, false, true≢false}
 use Prim.Native.Nat.{ℕ, ◌+◌, ◌<◌, ◌≤◌}
 use native.Mathlib.Omega.{arith}
 use native.Mathlib.Nat.{lt_of_lt_of_le}
@@ -23,11 +22,11 @@ no h = record { holds = λ e. never e; told = λ p. absurd (h p) }
 pub yes! : {P : Type 0} → P → Says true P
 yes! p = record { holds = λ e. p; told = λ q. refl }
 
-pub failed : {r : Bool} {P : Type 0} → Says r P → not r ≡ true → P → ⊥
-failed {r} s e p = true≢false (sym (s.told p) ∙ not-true r e)
+pub failed : {r : Bool} {P : Type 0} → Says r P → r ≡ false → P → ⊥
+failed s e p = true≢false (sym (s.told p) ∙ e)
 
-pub passed : {r : Bool} {P : Type 0} → Says r P → not r ≡ false → P
-passed {r} s e = s.holds (not-false r e)
+pub passed : {r : Bool} {P : Type 0} → Says r P → r ≡ true → P
+passed s e = s.holds e
 
 pub over : {r : Bool} {P Q : Type 0} → (P → Q) → (Q → P) → Says r P → Says r Q
 over f g s = record { holds = λ e. f (s.holds e); told = λ q. s.told (g q) }

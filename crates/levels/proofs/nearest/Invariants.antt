@@ -1,0 +1,14 @@
+-- `levels::nearest` meets its contract. The invariant: the walk stands on the level, and the answer from there is that from the start.
+use mathlib.Core.Path.{◌≡◌, refl, sym, ◌∙◌}
+use native.Mathlib.Omega.{arith}
+use lib.ListN.{length}
+use Rattle.levels.specs.Levels.{onward}
+use Rattle.levels.specs.Nearest.{nearest_of, Walkable}
+use Rattle.levels.proofs.Nearing.{walk_less, walk_on, nearest_here, nearest_on, nearest_end}
+use Rattle.levels.proofs.nearest.Given as goal
+
+abbrev pub invariant-loop-m : goal.invariant-loop-m
+invariant-loop-m l = Walkable l.rows l.cap l.d l.m × (nearest_of l.rows l.cap l.d l.m ≡ nearest_of l.rows l.cap l.d l.from)
+
+abbrev pub decreases-loop-m : goal.decreases-loop-m
+decreases-loop-m l = length (onward l.rows l.cap l.d l.m)
