@@ -1,0 +1,15 @@
+-- `buckets::before` meets its contract.
+use mathlib.Core.Path.{◌≡◌, refl, sym, ◌∙◌}
+use native.Mathlib.Omega.{arith}
+use lib.ListN.{length}
+use Rattle.rows.specs.Rows.{chains}
+use Rattle.buckets.specs.Chains.{chain_from}
+use Rattle.buckets.specs.Changes.{prior}
+use Rattle.buckets.proofs.Walks.{Ahead, ahead, prior_next, prior_less, prior_more, prior_end}
+use Rattle.buckets.proofs.before.Given as goal
+
+abbrev pub invariant-loop-cap : goal.invariant-loop-cap
+invariant-loop-cap l = Ahead (chains l.rows) l.cap l.n l.p × (prior l.n l.cap (chain_from (chains l.rows) l.cap l.p) ≡ prior l.n l.cap (chain_from (chains l.rows) l.cap l.first))
+
+abbrev pub decreases-loop-cap : goal.decreases-loop-cap
+decreases-loop-cap l = length (chain_from (chains l.rows) l.cap l.p)
