@@ -1,0 +1,6 @@
+-- `places::present_count` meets its contract.
+use borrow.Author.Rules.{rules}
+use Rattle.places.proofs.present_count.Goals as goal
+
+pub returns : goal.returns
+returns c = c.cell.ensures
