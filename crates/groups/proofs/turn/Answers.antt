@@ -1,0 +1,28 @@
+-- `groups::turn` meets its contract.
+use mathlib.Core.Path.{sym, ap, ◌∙◌}
+use native.Mathlib.Omega.{arith}
+use Rattle.lists.proofs.Signs.{neg, nonneg}
+use Rattle.groups.specs.Signs.{turned}
+use Rattle.groups.proofs.Signing.{turn_neg, turn_pos}
+use Rattle.groups.proofs.turn.Goals as goal
+
+pub overflow_cast-result : goal.overflow_cast-result
+overflow_cast-result c = let h = neg c.args.k c.ranges.k c.if-k-lt0.true in (rw h.flip tt, rw h.flip (record { fits = omega (arith, h.small) }))
+
+pub overflow_mul-result : goal.overflow_mul-result
+overflow_mul-result c = let h = neg c.args.k c.ranges.k c.if-k-lt0.true in rw h.flip (record { fits = omega (arith, h.small) })
+
+pub overflow_add-result : goal.overflow_add-result
+overflow_add-result c = let h = neg c.args.k c.ranges.k c.if-k-lt0.true in rw h.flip (record { fits = omega (arith, h.small) })
+
+pub overflow_cast-result-else-k-lt0 : goal.overflow_cast-result-else-k-lt0
+overflow_cast-result-else-k-lt0 c = let h = nonneg c.args.k c.ranges.k c.if-k-lt0.false in (rw h.same tt, rw h.same (record { fits = omega (arith, h.small) }))
+
+pub overflow_mul-result-else-k-lt0 : goal.overflow_mul-result-else-k-lt0
+overflow_mul-result-else-k-lt0 c = let h = nonneg c.args.k c.ranges.k c.if-k-lt0.false in rw h.same (record { fits = omega (arith, h.small) })
+
+pub returns-then-k-lt0 : goal.returns-then-k-lt0
+returns-then-k-lt0 c = let h = neg c.args.k c.ranges.k c.if-k-lt0.true in rw h.flip (turn_neg h.n ∙ sym (ap turned h.is))
+
+pub returns-else-k-lt0 : goal.returns-else-k-lt0
+returns-else-k-lt0 c = let h = nonneg c.args.k c.ranges.k c.if-k-lt0.false in rw h.same (turn_pos h.n ∙ sym (ap turned h.is))

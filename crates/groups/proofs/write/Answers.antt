@@ -1,0 +1,17 @@
+-- `groups::write` meets its contract.
+use mathlib.Core.Path.{◌∙◌}
+use native.Mathlib.Omega.{arith}
+use native.Mathlib.Nat.{zero-add}
+use Rattle.groups.specs.Groups.{groups_of}
+use Rattle.groups.proofs.Writing.{writes_short, writes_whole}
+use borrow.Author.Rules.{rules}
+use Rattle.groups.proofs.write.Goals as goal
+
+pub returns-then-buffer-length_of : goal.returns-then-buffer-length_of
+returns-then-buffer-length_of c = let a = c.args in writes_short (groups_of a.n) a.buffer.now (omega arith)
+
+pub returns : goal.returns
+returns c =
+    let a = c.args in
+    let p = c.put in
+    writes_whole (groups_of a.n) a.buffer.now p.new.buffer p.result (omega arith) (p.ensures.0 ∙ zero-add _) p.ensures.1
