@@ -37,5 +37,5 @@ returns-in-64 c = sym (ap levels_of c.in-64.is)
 
 pub returns-in_default : goal.returns-in_default
 returns-in_default c =
-    let r = c.in_default-own.rest in
+    let r = c.in_default.in_default-own.rest in
     sym (levels_none _ r.1 r.0.1 r.0.0.1 r.0.0.0.1 r.0.0.0.0.1 r.0.0.0.0.0.1 r.0.0.0.0.0.0.1)
