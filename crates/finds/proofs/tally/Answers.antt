@@ -1,0 +1,6 @@
+-- `finds::tally` meets its contract.
+use borrow.Author.Rules.{rules}
+use Rattle.finds.proofs.tally.Goals as goal
+
+pub returns : goal.returns
+returns c = rw (c.free_count.ensures, c.present_count.ensures, c.cell-retired.ensures)
