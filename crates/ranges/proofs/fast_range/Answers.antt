@@ -1,0 +1,66 @@
+-- `ranges::fast_range` meets its contract: one law for each return.
+use mathlib.Core.Path.{◌≡◌, sym, ap, ◌∙◌}
+use mathlib.Core.Bool.{true, false}
+use Prim.Native.Nat.{◌≤◌, ◌+◌}
+use native.Mathlib.Omega.{arith}
+use lib.ListN.{length}
+use mir.Syntax.{w64}
+use mir.ValLaws.{to_z-of_z}
+use borrow.Author.Tests.{not-true, not-false}
+use Rattle.sizes.specs.Rank.{rank_of}
+use Rattle.finds.specs.Near.{near_of}
+use Rattle.ranges.proofs.Walking.{walked_few, walked_laid}
+use Rattle.ranges.proofs.OpenCases.{signed_lt}
+use Rattle.ranges.proofs.FastCases.{fast_walk, fast_crossed, fast_many, fast_full, fast_given_lem}
+use borrow.Author.Rules.{rules}
+use Rattle.ranges.proofs.fast_range.Reads as reads
+use Rattle.ranges.proofs.fast_range.Lts as lts
+use Rattle.finds.proofs.near.Reads as near-reads
+use Rattle.ranges.proofs.lay.Reads as lay-reads
+use Rattle.ranges.proofs.long.Reads as long-reads
+use Rattle.ranges.proofs.smaller.Reads as smaller-reads
+use Rattle.ranges.proofs.walk_range.Reads as walk-range-reads
+use Rattle.sizes.proofs.rank.Reads as rank-reads
+use Rattle.ranges.proofs.fast_range.Goals as goal
+
+pub returns-then-high-low : goal.returns-then-high-low
+returns-then-high-low c =
+    let a = c.args in
+    let f = c.ranges in
+    fast_crossed a.keys.now a.values.now a.rows.now a.counter.0 a.low a.high a.out_keys.now a.out_values.now (signed_lt a.high a.low true f.high f.low c.if-high-low.true)
+
+pub walk_range-walked-requires : goal.walk_range-walked-requires
+walk_range-walked-requires c =
+    let a = c.args in
+    let e : c.near-rest.result ≡ near_of a.keys.now a.rows.now (length a.keys.now) c.rank.result 0 true = c.near-rest.ensures in
+    (rw e (fast_walk a.keys.now a.values.now a.rows.now a.buckets.now c.requires c.rank.result), omega arith, omega arith)
+
+pub returns-then-not-walked : goal.returns-then-not-walked
+returns-then-not-walked c =
+    let a = c.args in
+    let f = c.ranges in
+    let walked = rw (c.long.ensures, c.near-rest.ensures, c.rank-2.ensures, c.rank.ensures, to_z-of_z w64 a.high f.high, to_z-of_z w64 a.low f.low) at c.walk_range-walked.ensures in
+    fast_many a.keys.now a.values.now a.rows.now a.counter.0 a.low a.high a.out_keys.now a.out_values.now (signed_lt a.high a.low false f.high f.low c.if-high-low.false) _ _ _ _ c.walk_range-walked.result walked (not-true _ c.if-not-walked.true)
+
+pub returns-then-smaller-count : goal.returns-then-smaller-count
+returns-then-smaller-count c =
+    let a = c.args in
+    let f = c.ranges in
+    let walked = rw (c.long.ensures, c.near-rest.ensures, c.rank-2.ensures, c.rank.ensures, to_z-of_z w64 a.high f.high, to_z-of_z w64 a.low f.low) at c.walk_range-walked.ensures in
+    fast_full a.keys.now a.values.now a.rows.now a.counter.0 a.low a.high a.out_keys.now a.out_values.now (signed_lt a.high a.low false f.high f.low c.if-high-low.false) _ _ _ _ c.walk_range-walked.result walked (not-false _ c.if-not-walked.false) (rw c.smaller.ensures at c.if-smaller-count.true)
+
+pub lay-requires : goal.lay-requires
+lay-requires c = ((walked_laid c.walk_range-walked.ensures).0, omega (arith, c.smaller.ensures))
+
+pub lay-requires-2 : goal.lay-requires-2
+lay-requires-2 c = ((walked_laid c.walk_range-walked.ensures).1, omega (arith, c.smaller.ensures))
+
+pub overflow_cast-pairs : goal.overflow_cast-pairs
+overflow_cast-pairs c = omega (arith, walked_few c.walk_range-walked.ensures, c.requires.near.small)
+
+pub returns : goal.returns
+returns c =
+    let a = c.args in
+    let f = c.ranges in
+    let walked = rw (c.long.ensures, c.near-rest.ensures, c.rank-2.ensures, c.rank.ensures, to_z-of_z w64 a.high f.high, to_z-of_z w64 a.low f.low) at c.walk_range-walked.ensures in
+    fast_given_lem a.keys.now a.values.now a.rows.now a.counter.0 a.low a.high a.out_keys.now a.out_values.now (signed_lt a.high a.low false f.high f.low c.if-high-low.false) _ _ _ _ c.walk_range-walked.result walked (not-false _ c.if-not-walked.false) _ _ (rw c.smaller.ensures at c.if-smaller-count.false) c.lay.ensures c.lay-2.ensures
