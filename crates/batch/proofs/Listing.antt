@@ -299,10 +299,10 @@ next_less s {c} n = let e = read_length n.1 in let l = call_some c in omega (ari
 
 -- ---- on any tables
 
-pub ran_refused : (i : Input) {r : Bool} → Says r (Sound i.tables) → not r ≡ true → Ran i (untouched i)
+pub ran_refused : (i : Input) {r : Bool} → Says r (Sound i.tables) → r ≡ false → Ran i (untouched i)
 ran_refused i {r} s e = record { tested = r; says = s; refuses = λ z. refl; lists = λ y. absurd (true≢false (sym y ∙ not-true r e)) }
 
-pub ran_lists : {i : Input} {o : Output} {r : Bool} → Says r (Sound i.tables) → not r ≡ false → Listed i o → Ran i o
+pub ran_lists : {i : Input} {o : Output} {r : Bool} → Says r (Sound i.tables) → r ≡ true → Listed i o → Ran i o
 ran_lists {r = r} s e l = record { tested = r; says = s; refuses = λ z. absurd (true≢false (sym (not-false r e) ∙ z)); lists = λ y. l }
 
 -- ---- what an outcome tells

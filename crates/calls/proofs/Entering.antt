@@ -11,7 +11,7 @@ use Rattle.calls.specs.Outcome.{Outcome}
 
 module _ {X E : Type 0} {tables : X → Tables} {of : E → Answer} {c : Call} {before after : X} {given refuse : E} where
   -- LAW: the test failed: nothing changed
-  pub refusing : {tested : Bool} → Says tested (Sound (tables before)) → not tested ≡ true → Outcome tables of c before before after refuse given refuse
+  pub refusing : {tested : Bool} → Says tested (Sound (tables before)) → tested ≡ false → Outcome tables of c before before after refuse given refuse
   refusing {tested} s e =
       record {
         tested = false;
@@ -22,7 +22,7 @@ module _ {X E : Type 0} {tables : X → Tables} {of : E → Answer} {c : Call} {
       }
 
   -- LAW: the test passed: the call was made
-  pub making : {exit : X} {answer : E} {tested : Bool} → Says tested (Sound (tables before)) → not tested ≡ false → exit ≡ after → answer ≡ given → Met (tables before) (tables after) c (of given)
+  pub making : {exit : X} {answer : E} {tested : Bool} → Says tested (Sound (tables before)) → tested ≡ true → exit ≡ after → answer ≡ given → Met (tables before) (tables after) c (of given)
       → Outcome tables of c before exit after answer given refuse
   making {tested = tested} s e x a m =
       record {

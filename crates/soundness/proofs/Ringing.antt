@@ -79,11 +79,11 @@ module _ (removal : ℕ → ℕ) (ring : List ℕ) (due : ℕ) (tickets : List T
       listing_room h = (here h).0
 
       module _ {r : Bool} (s : Says r (All (λ m. removal m < (ticket_at tickets i).version.0) (take size (drop start ring)))) where
-        pub listing_bad : not r ≡ true → Listed removal ring due (take n tickets) → ⊥
+        pub listing_bad : r ≡ false → Listed removal ring due (take n tickets) → ⊥
         listing_bad e h = failed s e (here h).1
 
         -- LAW: one list further
-        pub listing_on : not r ≡ false → size ≤ length ring - start → Listing removal ring due tickets n (start + size) (ticket_at tickets i).held (i + 1)
+        pub listing_on : r ≡ true → size ≤ length ring - start → Listing removal ring due tickets n (start + size) (ticket_at tickets i).held (i + 1)
         listing_on f l' =
             let e : i + 1 ≡ suc i = omega arith in
             rw e
