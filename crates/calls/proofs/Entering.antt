@@ -1,8 +1,7 @@
 -- An entry point's two ways: refused by the test, or the call made.
 -- Assumes nothing.
 use mathlib.Core.Path.{◌≡◌, refl, sym, subst}
-use mathlib.Core.Bool.{Bool, true, false, not}
-use borrow.Author.Tests.{not-true, not-false}
+use mathlib.Core.Bool.{Bool, true, false}
 use Rattle.lists.specs.Tests.{Says}
 use Rattle.lists.proofs.Answers.{never}
 use Rattle.model.specs.Calls.{Call, Answer}
@@ -15,7 +14,7 @@ module _ {X E : Type 0} {tables : X → Tables} {of : E → Answer} {c : Call} {
   refusing {tested} s e =
       record {
         tested = false;
-        says = subst (λ (b : Bool). Says b (Sound (tables before))) (not-true tested e) s;
+        says = subst (λ (b : Bool). Says b (Sound (tables before))) e s;
         lent = refl;
         answers = refl;
         met = λ q. never q;
@@ -27,7 +26,7 @@ module _ {X E : Type 0} {tables : X → Tables} {of : E → Answer} {c : Call} {
   making {tested = tested} s e x a m =
       record {
         tested = true;
-        says = subst (λ (b : Bool). Says b (Sound (tables before))) (not-false tested e) s;
+        says = subst (λ (b : Bool). Says b (Sound (tables before))) e s;
         lent = x;
         answers = a;
         met = λ q. m;

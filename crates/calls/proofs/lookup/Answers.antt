@@ -1,0 +1,27 @@
+-- `calls::lookup` meets its contract.
+use mathlib.Core.Path.{◌≡◌, refl, ap, ◌∙◌}
+use mir.Syntax.{w64}
+use mir.ValLaws.{to_z-of_z}
+use Rattle.sizes.specs.Rank.{rank_of}
+use Rattle.finds.proofs.LookupLaw.{lookup_ready, lookup_meets}
+use Rattle.lists.proofs.Answers.{passed}
+use Rattle.soundness.specs.Tested.{lent}
+use Rattle.calls.proofs.Entering.{refusing, making}
+use borrow.Author.Rules.{rules}
+use Rattle.calls.proofs.lookup.Reads as reads
+use Rattle.calls.proofs.lookup.Lts as lts
+use Rattle.finds.proofs.lookup.Reads as lookup-reads
+use Rattle.soundness.proofs.sound.Reads as sound-reads
+use Rattle.calls.proofs.lookup.Goals as goal
+
+pub returns-then-not-sound : goal.returns-then-not-sound
+returns-then-not-sound c = refusing c.sound.ensures c.if-not-sound.true
+
+pub lookup-requires : goal.lookup-requires
+lookup-requires c = lookup_ready (lent c.args.keys.now c.args.values.now c.args.rows.now c.args.buckets.now c.args.tickets c.args.coordinator) (passed c.sound.ensures c.if-not-sound.false)
+
+pub returns : goal.returns
+returns c =
+    let t = (lent c.args.keys.now c.args.values.now c.args.rows.now c.args.buckets.now c.args.tickets c.args.coordinator) in
+    let S = passed c.sound.ensures c.if-not-sound.false in
+    making c.sound.ensures c.if-not-sound.false refl (c.lookup.ensures ∙ rw (to_z-of_z w64 c.args.key c.ranges.key)) (lookup_meets t S c.args.key c.ranges.key)
