@@ -1,0 +1,6 @@
+-- `transactions::write_call` meets its contract.
+use borrow.Author.Rules.{rules}
+use Rattle.transactions.proofs.write_call.Goals as goal
+
+pub returns : goal.returns
+returns c = rw c.numbers_of-numbers.ensures.is at c.write_numbers.ensures
