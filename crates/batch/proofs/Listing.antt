@@ -1,7 +1,7 @@
 -- The calls of a list that were made so far, one more, and the end.
 -- Assumes nothing.
 use mathlib.Core.Path.{◌≡◌, refl, sym, ap, ap₂, ◌∙◌}
-use mathlib.Core.Bool.{Bool, true, false, not, true≢false}
+use mathlib.Core.Bool.{Bool, true, false, true≢false}
 use mathlib.Core.List.{List, [], ◌∷◌, ◌++◌, map, append_assoc, append-nil}
 use mathlib.Core.Option.{Option}
 use mathlib.Core.Option as O
@@ -10,7 +10,6 @@ use native.Mathlib.Omega.{arith}
 use lib.ListN.{length, take, drop, length-append, length-map, length-drop}
 use lib.Seq.{take-add}
 use lib.IntN.{ℤ}
-use borrow.Author.Tests.{not-true, not-false}
 use Rattle.lists.specs.Tests.{Says}
 use Rattle.lists.specs.Buffers.{written}
 use Rattle.lists.proofs.Answers.{yes! }
@@ -300,10 +299,10 @@ next_less s {c} n = let e = read_length n.1 in let l = call_some c in omega (ari
 -- ---- on any tables
 
 pub ran_refused : (i : Input) {r : Bool} → Says r (Sound i.tables) → r ≡ false → Ran i (untouched i)
-ran_refused i {r} s e = record { tested = r; says = s; refuses = λ z. refl; lists = λ y. absurd (true≢false (sym y ∙ not-true r e)) }
+ran_refused i {r} s e = record { tested = r; says = s; refuses = λ z. refl; lists = λ y. absurd (true≢false (sym y ∙ e)) }
 
 pub ran_lists : {i : Input} {o : Output} {r : Bool} → Says r (Sound i.tables) → r ≡ true → Listed i o → Ran i o
-ran_lists {r = r} s e l = record { tested = r; says = s; refuses = λ z. absurd (true≢false (sym (not-false r e) ∙ z)); lists = λ y. l }
+ran_lists {r = r} s e l = record { tested = r; says = s; refuses = λ z. absurd (true≢false (sym e ∙ z)); lists = λ y. l }
 
 -- ---- what an outcome tells
 

@@ -83,14 +83,14 @@ module _ (i : Input) where
   pub made_once : (before cs ds : List Call) (e f : End) → Made i before cs → Made i before ds → Follows i (before ++ cs) (Over e) → Follows i (before ++ ds) (Over f) → (cs ≡ ds) × (e ≡ f)
   made_once before [] [] e f m n u v = (refl, same_end e f (follows_once (before ++ []) (Over e) (Over f) u v))
   made_once before [] (d ∷ ds) e f m n u v =
-      absurd (not_over e d (length_of d) (follows_once before (Over e) (Make d (length_of d)) (rw (append-nil before) at u) n.0))
+      absurd (not_over e d (length_of d) (follows_once before (Over e) (Make d (length_of d)) (subst (λ x. Follows i x (Over e)) (append-nil before) u) n.0))
   made_once before (c ∷ cs) [] e f m n u v =
-      absurd (not_over f c (length_of c) (follows_once before (Over f) (Make c (length_of c)) (rw (append-nil before) at v) m.0))
+      absurd (not_over f c (length_of c) (follows_once before (Over f) (Make c (length_of c)) (subst (λ x. Follows i x (Over f)) (append-nil before) v) m.0))
   made_once before (c ∷ cs) (d ∷ ds) e f m n u v =
       let p : d ≡ c = same_call d c (length_of d) (length_of c) (follows_once before (Make d (length_of d)) (Make c (length_of c)) n.0 m.0) in
       let r =
-      made_once (before ++ (c ∷ [])) cs ds e f m.1 (subst (λ x. Made i (before ++ (x ∷ [])) ds) p n.1) (rw (append_assoc before (c ∷ []) cs) u)
-      (rw (append_assoc before (c ∷ []) ds) (subst (λ x. Follows i (before ++ (x ∷ ds)) (Over f)) p v)) in
+      made_once (before ++ (c ∷ [])) cs ds e f m.1 (subst (λ x. Made i (before ++ (x ∷ [])) ds) p n.1) (subst (λ x. Follows i x (Over e)) (sym (append_assoc before (c ∷ []) cs)) u)
+      (subst (λ x. Follows i x (Over f)) (sym (append_assoc before (c ∷ []) ds)) (subst (λ x. Follows i (before ++ (x ∷ ds)) (Over f)) p v)) in
       (ap₂ {C = List Call} (λ a l. a ∷ l) (sym p) r.0, r.1)
 
   -- LAW: two outcomes on sound tables are equal

@@ -1,0 +1,19 @@
+-- `batch::run_calls` meets its contract. The invariant: what was made so far, on tables that are sound; the measure is how many bytes are left.
+use mathlib.Core.Path.{◌≡◌, refl, ◌∙◌, subst}
+use Prim.Native.Nat.{◌-◌}
+use native.Mathlib.Omega.{arith}
+use lib.ListN.{length}
+use Rattle.soundness.specs.Tested.{lent}
+use Rattle.batch.specs.Lists.{Comes, input_of}
+use Rattle.batch.proofs.Laying.{kind_laid}
+use Rattle.batch.proofs.Listing.{Sofar, sofar_none, sofar_turn, sofar_ends, next_ends, next_less, out_length, keys_length, values_length}
+use borrow.Author.Rules.{rules}
+use Rattle.batch.proofs.run_calls.Given as goal
+
+abbrev pub invariant-loop-call : goal.invariant-loop-call
+invariant-loop-call l =
+    Sofar (input_of (lent l.initial.keys l.initial.values l.initial.rows l.initial.buckets l.initial.tickets_now l.initial.coordinator_now) l.bytes l.more l.initial.answers l.initial.out_keys l.initial.out_values) (lent l.keys l.values l.rows l.buckets l.tickets_now l.coordinator_now) l.answers l.out_keys l.out_values l.used l.calls l.pairs
+    × (length l.keys ≡ length l.initial.keys) × (length l.values ≡ length l.initial.values) × (length l.rows ≡ length l.initial.rows) × (length l.buckets ≡ length l.initial.buckets)
+
+abbrev pub decreases-loop-call : goal.decreases-loop-call
+decreases-loop-call l = length l.bytes - l.used
