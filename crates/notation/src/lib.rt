@@ -1,5 +1,6 @@
 // A schedule as text for people: one header or call a line, read and written.
 #![tactic(auto)]
+
 mod forms;
 mod numerals;
 mod putting;

@@ -1,0 +1,13 @@
+-- `notation::write_call` meets its contract.
+use borrow.Author.Rules.{rules}
+use mathlib.Core.Path.{sym}
+use native.Mathlib.Omega.{arith}
+use lib.Seq.{length-take-le}
+use Rattle.listing.proofs.Putting.{put_shown_lem}
+use Rattle.notation.proofs.write_call.Goals as goal
+
+pub slice_bounds-write_text-end : goal.slice_bounds-write_text-end
+slice_bounds-write_text-end c = let p = c.put_call-end in sym (length-take-le p.result p.new.out (omega (arith, p.ensures.within, p.auto.out)))
+
+pub returns : goal.returns
+returns c = rw (put_shown_lem (omega arith) c.put_call-end.ensures) at c.write_text.ensures
