@@ -1,5 +1,6 @@
 // The answers of the calls, each one of its own kinds. What a call does is said in specs/, without code: no function is here.
 #![tactic(auto)]
+
 use sizes::{Node, Version};
 
 // Set-up: an empty map.
