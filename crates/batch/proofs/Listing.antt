@@ -17,10 +17,9 @@ use Rattle.lists.proofs.Writing.{written_none, written_length, written_append}
 use Rattle.groups.specs.Groups.{groups_of}
 use Rattle.groups.proofs.Grouping.{groups_some}
 use Rattle.transactions.specs.declared.Call.{Call}
-use Rattle.transactions.specs.declared.Reading.{Reading}
 use Rattle.transactions.specs.Sequences.{bytes_of}
 use Rattle.transactions.specs.Calls.{numbers_of, call_limit}
-use Rattle.transactions.specs.Readings.{CallRead, WholeCall}
+use Rattle.transactions.specs.Readings.{WholeCall}
 use Rattle.transactions.proofs.Sequencing.{reached_length}
 use Rattle.transactions.proofs.Calling.{call_complete}
 use Rattle.transactions.proofs.Trips.{call_reached, written_call}
@@ -32,12 +31,11 @@ use Rattle.calls.specs.Outcome.{Called}
 use Rattle.calls.specs.Histories.{Calls, none, then, AsTheModel}
 use Rattle.calls.proofs.Histories.{as_the_model}
 use Rattle.batch.specs.declared.End.{End}
-use Rattle.batch.specs.declared.End.TheVariants.{Ended, Stop, More, Full, Refused}
 use Rattle.batch.specs.declared.Then.{Then}
 use Rattle.batch.specs.declared.Then.TheVariants.{Make, Over}
 use Rattle.batch.specs.Cells.{cells_of}
-use Rattle.batch.specs.Turns.{room, meant, turn_tables, answer_of, pairs_of, keys_in, values_in, Turned}
-use Rattle.batch.specs.Lists.{Input, Output, bytes_in, tables_after, made_on, cells_in, pairs_in, Room, Goes, Comes, Follows, Made, leaves, untouched, Laid, Listed, Ran}
+use Rattle.batch.specs.Turns.{room, meant, turn_tables, answer_of, pairs_of, keys_in, values_in}
+use Rattle.batch.specs.Lists.{Input, Output, bytes_in, tables_after, made_on, cells_in, pairs_in, Comes, Follows, Made, leaves, untouched, Laid, Listed, Ran}
 
 -- ---- one more call
 

@@ -6,20 +6,18 @@ use mathlib.Core.List.{List, [], ◌∷◌, ◌++◌, append_assoc, append-nil}
 use Prim.Native.Nat.{ℕ, ◌<◌, ◌≤◌}
 use native.Mathlib.Omega.{arith}
 use lib.ListN.{length, drop}
-use Rattle.lists.specs.Tests.{Says}
 use Rattle.transactions.specs.declared.Call.{Call}
 use Rattle.transactions.specs.declared.Reading.{Reading}
 use Rattle.transactions.specs.Sequences.{bytes_of}
 use Rattle.transactions.specs.Calls.{numbers_of}
 use Rattle.transactions.specs.Readings.{CallRead}
 use Rattle.transactions.proofs.Trips.{call_read_same}
-use Rattle.tables.specs.Tables.{Sound}
 use Rattle.calls.proofs.Once.{says_once}
 use Rattle.batch.specs.declared.End.{End}
 use Rattle.batch.specs.declared.End.TheVariants.{Ended, Stop, More, Full, Refused}
 use Rattle.batch.specs.declared.Then.{Then}
 use Rattle.batch.specs.declared.Then.TheVariants.{Make, Over}
-use Rattle.batch.specs.Lists.{Input, Output, Room, Goes, Comes, Follows, Made, leaves, untouched, Listed, Ran}
+use Rattle.batch.specs.Lists.{Input, Output, Room, Goes, Comes, Follows, Made, leaves, Listed, Ran}
 
 -- ---- what comes next
 

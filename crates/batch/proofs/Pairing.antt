@@ -2,11 +2,10 @@
 -- Assumes nothing.
 use mathlib.Core.Path.{◌≡◌, refl, sym, ap, ◌∙◌, subst}
 use mathlib.Core.Bool.{Bool, true, false, cond}
-use mathlib.Core.List.{List, [], ◌∷◌, ◌++◌, map, map-map}
+use mathlib.Core.List.{List, [], ◌++◌, map, map-map}
 use Prim.Native.Nat.{ℕ, ◌≤◌, ◌<◌, min}
 use native.Mathlib.Omega.{arith}
 use lib.ListN.{length, take, drop, length-map, length-take}
-use lib.Seq.{length-take-le}
 use lib.Dec.{ltb}
 use lib.IntN.{ℤ, pos}
 use lib.ListN.{get_or}
@@ -29,7 +28,7 @@ use Rattle.tables.specs.Tables.{Tables, Sound, Met, ticket_at}
 use Rattle.soundness.specs.Tested.{lent}
 use Rattle.ranges.specs.declared.Step as S
 use Rattle.ranges.specs.Walk.{keys_of, values_of, walk_of, needed}
-use Rattle.ranges.specs.Fast.{fast_answer, fast_nodes, fast_of, given, RangedBy}
+use Rattle.ranges.specs.Fast.{fast_answer, fast_nodes, fast_of, given}
 use Rattle.ranges.specs.Step.{Case, refuse, at, stepping, step_nodes, step_end, room_of, SteppedBy}
 use Rattle.ranges.proofs.WalkLaw.{pair_at, paired_written}
 use Rattle.ranges.proofs.FastLaw.{fast_meets}

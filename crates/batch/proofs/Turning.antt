@@ -2,7 +2,7 @@
 -- Assumes nothing.
 use mathlib.Core.Path.{◌≡◌, refl, sym, ap, ◌∙◌}
 use mathlib.Core.Bool.{Bool}
-use mathlib.Core.List.{List, [], ◌∷◌}
+use mathlib.Core.List.{List, []}
 use Prim.Native.Nat.{ℕ, ◌≤◌, ◌<◌}
 use native.Mathlib.Omega.{arith}
 use lib.ListN.{length}
@@ -29,9 +29,7 @@ use Rattle.model.specs.declared.Opened.{Opened}
 use Rattle.model.specs.declared.Closed.{Closed}
 use Rattle.model.specs.declared.Swept.{Swept}
 use Rattle.model.specs.declared.Tallied.{Tallied}
-use Rattle.tables.specs.declared.Ticket.{Ticket}
-use Rattle.tables.specs.declared.Coordinator.{Coordinator}
-use Rattle.tables.specs.Tables.{Tables, Sound, Met, view, capacity_of}
+use Rattle.tables.specs.Tables.{Tables, Sound, Met, capacity_of}
 use Rattle.soundness.specs.Tested.{lent}
 use Rattle.finds.specs.Lookup.{lookup_answer}
 use Rattle.finds.specs.Nearest.{nearest_call, nearest_answer}

@@ -1,6 +1,6 @@
 -- An entry point's two ways: refused by the test, or the call made.
 -- Assumes nothing.
-use mathlib.Core.Path.{◌≡◌, refl, sym, subst}
+use mathlib.Core.Path.{◌≡◌, refl, subst}
 use mathlib.Core.Bool.{Bool, true, false}
 use Rattle.lists.specs.Tests.{Says}
 use Rattle.lists.proofs.Answers.{never}

@@ -1,9 +1,8 @@
 -- Demands 2 and 3 of the tables: every sequence of calls from fresh tables is the model's.
 -- Assumes nothing.
 use mathlib.Core.Path.{◌≡◌, refl, sym, ap, ap₂, ◌∙◌, subst}
-use mathlib.Core.Bool.{Bool, true, false, true≢false}
-use mathlib.Core.List.{List, [], ◌∷◌, map}
-use mathlib.Core.Option.{some}
+use mathlib.Core.Bool.{false}
+use mathlib.Core.List.{List, ◌∷◌, map}
 use Prim.Native.Nat.{ℕ}
 use lib.ListN.{take, drop}
 use lib.IntN.{ℤ}

@@ -1,10 +1,10 @@
 -- An outcome is determined by the input.
 -- Assumes nothing.
 use mathlib.Core.Path.{◌≡◌, refl, sym, ap, ◌∙◌}
-use mathlib.Core.Bool.{Bool, true, false, cond, true≢false}
+use mathlib.Core.Bool.{Bool, true, false, cond}
 use Rattle.lists.specs.Tests.{Says}
 use Rattle.model.specs.Calls.{Call, Answer, refused}
-use Rattle.tables.specs.Tables.{Tables, Sound, Met}
+use Rattle.tables.specs.Tables.{Tables}
 use Rattle.calls.specs.Outcome.{Outcome, Called}
 
 -- LAW: two answers to one question are equal

@@ -1,15 +1,15 @@
 -- Calls of entry points one after another, from fresh tables.
 -- Assumes nothing.
-use Rattle.std.specs.Prelude.{◌≡◌, true, false, List, [], ◌∷◌, ◌++◌, map, ℕ, ◌≤◌, length, take, drop, ℤ}
+use Rattle.std.specs.Prelude.{◌≡◌, true, List, [], ◌∷◌, ◌++◌, map, ℕ, ◌≤◌, length, take, drop, ℤ}
 use Rattle.std.proofs.Math.Option as O
 use Rattle.std.proofs.Math.Option.{some}
 use Rattle.lists.specs.Holds.{All, Pairwise}
 use Rattle.lists.specs.Filters.{filter, empty}
 use Rattle.model.specs.Keys.{within}
 use Rattle.model.specs.Plain.{Pair, between}
-use Rattle.model.specs.Calls.{Call, Answer, refused, remove, node, fast, ranged, «open», opened, step, stepped}
-use Rattle.model.specs.Model.{State, Node, set_up, next, answer, after, history, refusal, plain, pair_of, is_present, is, fast_limit, stops, inside, pairs_of}
-use Rattle.model.specs.Demands.{Plainly, Kind, OneQueue, Counted, inserted_at, Below, handed_out, finished_in, closes}
+use Rattle.model.specs.Calls.{Call, Answer, refused, remove, node, fast, ranged, step, stepped}
+use Rattle.model.specs.Model.{Node, set_up, next, answer, after, history, refusal, plain, pair_of, is_present, is, fast_limit, stops, inside, pairs_of}
+use Rattle.model.specs.Demands.{Plainly, Kind, OneQueue, Counted, inserted_at, Below, handed_out, finished_in}
 use Rattle.tables.specs.Tables.{Tables, Sound, view}
 use Rattle.calls.specs.Outcome.{Called}
 

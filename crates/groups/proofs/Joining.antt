@@ -9,7 +9,7 @@ use native.Mathlib.Decide.{dec_lt, ℕ_discrete}
 use native.Mathlib.Nat.{mul-le-mul}
 use lib.ListN.{length, get_or, drop}
 use lib.Seq.{get_or-drop}
-use Rattle.groups.specs.Groups.{High, Led, Stands, Neither}
+use Rattle.groups.specs.Groups.{Led, Stands, Neither}
 use Rattle.groups.proofs.Scanning as scan
 use Rattle.groups.proofs.Scanning.{Going, Met}
 

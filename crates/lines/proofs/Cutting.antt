@@ -1,18 +1,17 @@
 -- A stop is a stop whatever bytes follow: what stops reading where more may follow is not only cut off.
 -- Assumes nothing.
-use mathlib.Core.Path.{◌≡◌, refl, sym, ap, ◌∙◌, subst}
+use mathlib.Core.Path.{◌≡◌, refl, sym, ap, ◌∙◌}
 use mathlib.Core.Bool.{Bool, true, false, true≢false}
 use mathlib.Core.List.{List, [], ◌∷◌, ◌++◌, append-nil}
 use mathlib.Core.Option.{Option}
-use Prim.Native.Nat.{ℕ, ◌+◌, ◌≤◌, ◌<◌}
+use Prim.Native.Nat.{ℕ, ◌≤◌, ◌<◌}
 use native.Mathlib.Omega.{arith}
 use native.Mathlib.Decide.{dec_lt}
 use lib.ListN.{length, take, drop, length-append}
 use lib.Seq.{length-take-le, take-append-le, drop-append-le, take-append_seam, take-take}
-use Rattle.lists.specs.Holds.{All}
 use Rattle.lists.proofs.Holding.{all_take}
-use Rattle.groups.specs.Groups.{High, Written, Begun, Stands}
-use Rattle.transactions.specs.Sequences.{Sequence, Reached, Stops, Stopped}
+use Rattle.groups.specs.Groups.{High, Begun, Stands}
+use Rattle.transactions.specs.Sequences.{Stops, Stopped}
 
 -- a number that ends behind these bytes is only begun in them
 begun_in : (rest later : List ℕ) {n len : ℕ} → Stands (rest ++ later) n len → length rest < len → Begun rest

@@ -6,7 +6,6 @@ use mathlib.Core.List.{List, [], ◌∷◌, ◌++◌, map}
 use Prim.Native.Nat.{ℕ, suc, ◌+◌, ◌*◌, ◌^◌, ◌≤◌, ◌<◌}
 use native.Mathlib.Omega.{arith}
 use lib.ListN.{length, take, drop, length-append, length-map, length-take, length-drop}
-use lib.IntN.{ℤ}
 use Rattle.lists.specs.Holds.{All}
 use Rattle.lists.specs.Buffers.{written}
 use Rattle.lists.proofs.Writing.{written_front}
@@ -21,7 +20,7 @@ use Rattle.batch.specs.declared.End.{End}
 use Rattle.batch.specs.declared.End.TheVariants.{Stop, Full}
 use Rattle.batch.specs.declared.Then.TheVariants.{Over}
 use Rattle.batch.specs.Turns.{room, meant, keys_in, values_in}
-use Rattle.batch.specs.Lists.{Input, Output, bytes_in, made_on, cells_in, pairs_in, Room, Follows, leaves, untouched, Listed, Ran}
+use Rattle.batch.specs.Lists.{Input, Output, bytes_in, made_on, cells_in, pairs_in, Follows, leaves, untouched, Listed, Ran}
 use Rattle.batch.proofs.Listing.{call_some, listed_bytes}
 use Rattle.listing.specs.Puts as Puts
 use Rattle.listing.specs.Puts.{Put}

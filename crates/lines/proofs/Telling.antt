@@ -9,13 +9,13 @@ use lib.Dec.{eqb}
 use lib.ListN.{length, get_or, take}
 use lib.IntN.{ℤ, pos}
 use lib.Signed.{mag}
-use borrow.Author.Tests.{eq-eqb, ne_eqb}
+use borrow.Author.Tests.{ne_eqb}
 use Rattle.model.specs.Plain.{Pair}
 use Rattle.model.specs.Calls.{Answer, refused, answered, pairs_in, flat, printed}
 use Rattle.listing.specs.Lines.{paired}
 use Rattle.batch.specs.Cells.{cells_of}
 use Rattle.batch.specs.Turns.{keys_in, values_in}
-use Rattle.lines.specs.Told.{numbers_of, hands_out, Paired, Celled, Natural, shown_of}
+use Rattle.lines.specs.Told.{numbers_of, hands_out, Celled, Natural, shown_of}
 
 -- 0 or the refusal
 abbrev result_of : Answer → ℕ

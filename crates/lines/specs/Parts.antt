@@ -2,7 +2,7 @@
 -- Assumes nothing.
 use Rattle.std.specs.Prelude.{◌≡◌, true, false, List, [], ℕ, length}
 use Rattle.listing.specs.Puts.{Put}
-use Rattle.batch.specs.Lists.{Input, Output, made_on, Listed, Ran}
+use Rattle.batch.specs.Lists.{Input, Output, made_on, Ran}
 use Rattle.lines.specs.Lines.{lines_behind, most_for}
 
 -- so many bytes of lines at the front of `out`, which becomes `last`: those of the calls that were made, behind so many transactions; none where the tables are refused

@@ -1,6 +1,6 @@
 -- Where a number stands in a list, a list without it, and the two ways to say that a list has no number twice.
 -- Assumes nothing.
-use Prim.Native.Nat.{ℕ, suc, ◌≤◌, ◌<◌}
+use Prim.Native.Nat.{ℕ, ◌≤◌, ◌<◌}
 use mathlib.Core.Path.{◌≡◌, refl, sym, ap, ◌∙◌}
 use mathlib.Core.Logic.{◌⊎◌, ⊎_elim, inl, inr}
 use mathlib.Core.Bool.{Bool, true, false, not}

@@ -1,10 +1,10 @@
 -- Demand 2, the kinds of answer: an accepted call answers in its own kind. So no statement of the form `answer s c ≡ node i → ..` is empty.
 -- Assumes nothing.
 use mathlib.Core.Path.{◌≡◌, refl}
-use mathlib.Core.Bool.{Bool, true, false, true≢false}
+use mathlib.Core.Bool.{true, false, true≢false}
 use mathlib.Core.List.{[], ◌∷◌}
 use mathlib.Core.Option.{Option, none, some}
-use Prim.Native.Nat.{suc, ◌-◌, min}
+use Prim.Native.Nat.{suc}
 use lib.ListN.{length, take, drop}
 use Rattle.lists.specs.Filters.{empty, lacks}
 use Rattle.model.specs.Plain.{Pair, get, ceil_of, floor_of, succ_of, pred_of, between}

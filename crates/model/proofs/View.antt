@@ -1,10 +1,10 @@
 -- Laws for the code's walks: what the model says of the map shown and of a range, read off the linked nodes.
 -- Assumes nothing.
 use mathlib.Core.Path.{◌≡◌, refl, sym, ap, ◌∙◌, subst}
-use mathlib.Core.Bool.{Bool, true, false, not, cond, true≢false, ◌&&◌}
+use mathlib.Core.Bool.{Bool, true, false, cond, true≢false, ◌&&◌}
 use mathlib.Core.List.{List, [], ◌∷◌, ◌++◌, map}
 use mathlib.Core.Option.{none, some}
-use Prim.Native.Nat.{ℕ, ◌+◌}
+use Prim.Native.Nat.{ℕ}
 use lib.IntN.{ℤ}
 use lib.Signed.{lt_z}
 use borrow.Author.Tests.{eq-eqb}
@@ -13,8 +13,8 @@ use Rattle.lists.specs.Filters.{keep, filter, first, last, last_or, maybe}
 use Rattle.lists.proofs.Holding.{all_imp, all_imp₂}
 use Rattle.lists.proofs.Filtering.{first_all}
 use Rattle.model.specs.Keys.{eq_z}
-use Rattle.model.specs.Plain.{Pair, between}
-use Rattle.model.specs.Model.{Node, pair_of, is_present, may_rest, shown, is, Rest, on, tail, State, stops, rest_at, from, ahead, stitch, holds, leave, change, moved, pending}
+use Rattle.model.specs.Plain.{Pair}
+use Rattle.model.specs.Model.{Node, pair_of, is_present, may_rest, shown, is, Rest, on, tail, State, stops, rest_at, from, stitch, holds, leave, change, moved, pending}
 use Rattle.model.specs.WellFormed.{Before, Apart, WellFormed}
 use Rattle.model.proofs.Order.{and_left, and_right, lt_ne, eqb_sym, eq_z_eq}
 use Rattle.model.proofs.Nodes.{others}

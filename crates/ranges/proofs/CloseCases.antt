@@ -12,7 +12,6 @@ use Rattle.model.specs.declared.Closed.TheVariants.{Refused, Due}
 use Rattle.tables.specs.declared.Ticket.{Ticket}
 use Rattle.tables.specs.declared.Coordinator.{Coordinator}
 use Rattle.tables.specs.Tables.{ticket_at, gained}
-use Rattle.ranges.specs.declared.Close.{Close}
 use Rattle.ranges.specs.Tickets.{index_of, slide}
 use Rattle.ranges.specs.Close.{fewer, close_at, closing}
 

@@ -1,11 +1,11 @@
 -- The cases of a fast range, as the code comes to them.
 -- Assumes nothing.
-use mathlib.Core.Path.{◌≡◌, refl, sym, ap, ◌∙◌}
-use mathlib.Core.Bool.{Bool, true, false, true≢false}
+use mathlib.Core.Path.{◌≡◌, sym, ap, ◌∙◌}
+use mathlib.Core.Bool.{true, false, true≢false}
 use mathlib.Core.List.{List, [], ◌∷◌}
 use Prim.Native.Nat.{ℕ, zero, suc, ◌≤◌, ◌<◌, ◌+◌}
 use native.Mathlib.Omega.{arith}
-use lib.ListN.{length, take, drop, length-drop, length-map}
+use lib.ListN.{length, take, drop, length-map}
 use lib.Seq.{take_all, take_at}
 use lib.IntN.{ℤ}
 use lib.Signed.{lt_z}
@@ -15,14 +15,13 @@ use Rattle.lists.specs.Buffers.{written}
 use Rattle.lists.proofs.Writing.{written_none}
 use Rattle.model.specs.declared.Ranged.{Ranged}
 use Rattle.model.specs.declared.Ranged.TheVariants.{Refused, Pairs}
-use Rattle.finds.specs.Near.{NearReady, near_of}
+use Rattle.finds.specs.Near.{near_of}
 use Rattle.finds.proofs.Walking.{near_walkable}
 use Rattle.sizes.specs.Rank.{rank_of}
 use Rattle.ranges.specs.declared.Walked.{Walked}
-use Rattle.ranges.specs.Walk.{Walk, walk, walk_of, needed, handed, finished, keys_of, values_of, WalkReady, WalkedBy}
+use Rattle.ranges.specs.Walk.{Walk, walk, needed, handed, keys_of, values_of, WalkReady, WalkedBy}
 use Rattle.ranges.specs.Step.{room_of}
-use Rattle.ranges.specs.Open.{new_ticket}
-use Rattle.ranges.specs.Fast.{fast_nodes, fast_answer, given, FastReady, fast_of, fast_given, RangedBy}
+use Rattle.ranges.specs.Fast.{fast_answer, given, FastReady, RangedBy}
 use Rattle.ranges.proofs.Walking.{written_front}
 
 -- LAW: what the walk of a fast range relies on

@@ -2,8 +2,8 @@
 -- Assumes nothing.
 use mathlib.Core.Path.{◌≡◌, refl, sym, ap, ◌∙◌}
 use mathlib.Core.Bool.{Bool, true, false}
-use mathlib.Core.List.{List, [], ◌∷◌, map}
-use Prim.Native.Nat.{ℕ, suc, ◌+◌}
+use mathlib.Core.List.{List, map}
+use Prim.Native.Nat.{ℕ}
 use lib.ListN.{length, get_or, length-map}
 use lib.Dec.{ltb}
 use lib.IntN.{ℤ, pos}
@@ -21,7 +21,7 @@ use Rattle.model.specs.declared.Ranged.TheVariants.{Refused, Pairs}
 use Rattle.model.proofs.Stops.{snapshot}
 use Rattle.model.proofs.PlainMap.{refuses}
 use Rattle.model.proofs.Applied.{fast_gives}
-use Rattle.tables.specs.Tables.{Tables, capacity_of, Sound, Met, view, nodes_of}
+use Rattle.tables.specs.Tables.{Tables, Sound, Met, view, nodes_of}
 use Rattle.tables.proofs.Meeting.{met_same}
 use Rattle.finds.proofs.NearLaw.{near_ready}
 use Rattle.ranges.specs.Walk.{keys_of, values_of}

@@ -1,10 +1,10 @@
 -- What an open does to the tickets and the coordinator means: the model's answer, the model's next state, and sound tables.
 -- Assumes nothing.
-use mathlib.Core.Path.{◌≡◌, refl, sym, ap, ◌∙◌, subst}
-use mathlib.Core.Logic.{◌⊎◌, inl, inr, ⊎_elim}
+use mathlib.Core.Path.{◌≡◌, refl, sym, ap, ◌∙◌}
+use mathlib.Core.Logic.{inl, inr, ⊎_elim}
 use mathlib.Core.Bool.{Bool, true, false}
-use mathlib.Core.List.{List, [], ◌∷◌, ◌++◌, map}
-use Prim.Native.Nat.{ℕ, zero, suc, ◌≤◌, ◌<◌, ◌+◌}
+use mathlib.Core.List.{List, [], ◌∷◌, ◌++◌}
+use Prim.Native.Nat.{ℕ, zero, suc, ◌<◌, ◌+◌}
 use native.Mathlib.Omega.{arith}
 use native.Mathlib.Decide.{dec_lt}
 use native.Mathlib.Numerals.{add-one}
@@ -32,7 +32,7 @@ use Rattle.tables.specs.declared.Ticket.{Ticket}
 use Rattle.tables.specs.declared.Coordinator.{Coordinator}
 use Rattle.tables.specs.Tables.{Tables, capacity_of, Resting, Sound, Met, view, range_of, ranges_of, nodes_of}
 use Rattle.tables.proofs.Meeting.{met, met_same}
-use Rattle.finds.specs.Near.{near_of, NearReady}
+use Rattle.finds.specs.Near.{NearReady}
 use Rattle.finds.proofs.NearLaw.{near_ready, rest_near}
 use Rattle.finds.proofs.Walking.{near_walkable}
 use Rattle.ranges.specs.declared.Open.{Open}

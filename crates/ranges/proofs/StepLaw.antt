@@ -2,8 +2,8 @@
 -- Assumes nothing.
 use mathlib.Core.Path.{◌≡◌, refl, sym, ap, ap₂, ◌∙◌}
 use mathlib.Core.Logic.{◌≢◌, ◌⊎◌, inl, inr}
-use mathlib.Core.Bool.{Bool, cond}
-use mathlib.Core.List.{List, [], ◌∷◌, map}
+use mathlib.Core.Bool.{cond}
+use mathlib.Core.List.{List, [], ◌∷◌}
 use Prim.Native.Nat.{ℕ, zero, suc, ◌≤◌, ◌<◌, ◌+◌}
 use native.Mathlib.Omega.{arith}
 use native.Mathlib.Decide.{dec_lt, ℕ_discrete}
@@ -14,12 +14,12 @@ use borrow.Author.Tests.{eq-eqb, ne_eqb, lt-ltb, le-ltb}
 use Rattle.lists.specs.Holds.{All, Pairwise}
 use Rattle.lists.specs.Filters.{head_or}
 use Rattle.lists.specs.Buffers.{written}
-use Rattle.lists.proofs.Holding.{all_imp, all_drop, all_head}
+use Rattle.lists.proofs.Holding.{all_imp, all_drop}
 use Rattle.sizes.specs.Rank.{key_of}
 use Rattle.model.specs.Model as M
 use Rattle.model.specs.WellFormed.{Earlier, Rested}
-use Rattle.model.specs.Calls.{step, refused, answered}
-use Rattle.model.specs.Answers.{paired, of_stepped}
+use Rattle.model.specs.Calls.{step, refused}
+use Rattle.model.specs.Answers.{of_stepped}
 use Rattle.model.proofs.PlainMap.{refuses}
 use Rattle.model.proofs.Applied.{step_moves}
 use Rattle.tables.specs.declared.Ticket.{Ticket}
@@ -27,12 +27,12 @@ use Rattle.tables.specs.Tables.{Tables, capacity_of, Resting, Sound, Met, view, 
 use Rattle.tables.proofs.Meeting.{met, met_same}
 use Rattle.ranges.specs.declared.Step.{Step}
 use Rattle.ranges.specs.Tickets.{index_of, with_tickets}
-use Rattle.ranges.specs.Walk.{walk_of, stops, needed, handed, finished, rest_after, keys_of, values_of}
+use Rattle.ranges.specs.Walk.{walk_of, stops, needed, handed, rest_after, keys_of, values_of}
 use Rattle.ranges.specs.Step.{Case, refuse, at, stepping, step_nodes, rest_on, step_end, room_of, StepReady, step_given, SteppedBy, stepping_of, stepped_tables}
 use Rattle.ranges.proofs.Mapping.{all_mapped}
 use Rattle.ranges.proofs.Tickets.{named_ticket, range_found, range_lost, all_at, all_set}
 use Rattle.ranges.proofs.Walking.{stops_nodes}
-use Rattle.ranges.proofs.WalkLaw.{paired_written, pair_at, stop_at, stepping_nodes, ticket_ready, ahead_walk, left_walk}
+use Rattle.ranges.proofs.WalkLaw.{paired_written, stepping_nodes, ticket_ready, ahead_walk, left_walk}
 
 -- ---- the ranges of the tickets
 

@@ -4,7 +4,7 @@ use mathlib.Core.Path.{◌≡◌, refl, sym, ap, ◌∙◌}
 use mathlib.Core.Logic.{◌⊎◌, inl, inr, ⊎_elim}
 use mathlib.Core.Bool.{Bool, true, false, cond, true≢false, ◌&&◌}
 use mathlib.Core.List.{List, [], ◌∷◌, ◌++◌, map}
-use Prim.Native.Nat.{ℕ, zero, suc, ◌≤◌, ◌<◌, ◌+◌}
+use Prim.Native.Nat.{ℕ, ◌≤◌, ◌<◌, ◌+◌}
 use native.Mathlib.Omega.{arith}
 use native.Mathlib.Decide.{dec_lt}
 use lib.ListN.{length, get_or, take, drop, length-map}
@@ -22,7 +22,6 @@ use Rattle.sizes.proofs.Ranking.{keys_leb}
 use Rattle.rows.specs.Rows.{insertions, removals, places, links}
 use Rattle.levels.specs.Levels.{onward, order_of}
 use Rattle.levels.specs.Nearest.{Walkable}
-use Rattle.model.specs.Keys.{within}
 use Rattle.model.specs.Calls.{answered}
 use Rattle.model.specs.Answers.{paired}
 use Rattle.model.specs.Plain.{Pair}
@@ -30,12 +29,12 @@ use Rattle.model.specs.Model as M
 use Rattle.model.specs.WellFormed.{Rested}
 use Rattle.model.proofs.View.{scan, scan_ahead}
 use Rattle.tables.specs.declared.Ticket.{Ticket}
-use Rattle.tables.specs.Tables.{Tables, capacity_of, Resting, Sound, view, place_of, node_at, rest_of, range_of, nodes_of}
+use Rattle.tables.specs.Tables.{Tables, capacity_of, Resting, Sound, view, node_at, rest_of, range_of, nodes_of}
 use Rattle.tables.proofs.Viewing.{is_node}
 use Rattle.tables.proofs.Telling.{found_or_not, sound_capacity, sound_lowest, sound_rising}
-use Rattle.ranges.specs.Walk.{may_rest, Walk, walk_of, stops, needed, handed, finished, rest_after, keys_of, values_of, WalkReady}
+use Rattle.ranges.specs.Walk.{may_rest, walk_of, stops, needed, WalkReady}
 use Rattle.ranges.proofs.Mapping.{map_take, map_drop, map_empty}
-use Rattle.ranges.proofs.Walking.{written_front, onward_end, Behind, behind, stops_nodes}
+use Rattle.ranges.proofs.Walking.{written_front, onward_end, behind}
 
 -- ---- the pairs at the front of the buffers
 

@@ -6,27 +6,26 @@ use mathlib.Core.Bool.{Bool, true, false, cond}
 use mathlib.Core.List.{List, [], ◌∷◌, ◌++◌, map, append_assoc, append-nil}
 use Prim.Native.Nat.{ℕ, zero, suc, ◌≤◌, ◌<◌, ◌+◌}
 use native.Mathlib.Omega.{arith}
-use lib.ListN.{length, get_or, set, take, drop, length-append, length-map, length-take, drop_of_length-le}
+use lib.ListN.{length, get_or, set, drop, length-append, length-map, length-take, drop_of_length-le}
 use lib.Seq.{take_all, take_at, drop_at, drop-append_seam}
 use lib.Dec.{leb, ltb}
 use lib.IntN.{ℤ, pos}
 use borrow.Author.Tests.{le-leb, lt-leb, le-ltb, ltb-true}
 use Rattle.lists.specs.Holds.{All}
 use Rattle.lists.specs.Filters.{filter, head_or, empty}
-use Rattle.lists.specs.Members.{Split}
 use Rattle.lists.specs.Buffers.{written}
-use Rattle.lists.proofs.Holding.{all_imp, all_append, all_right, pairwise_right}
+use Rattle.lists.proofs.Holding.{all_imp, all_append, pairwise_right}
 use Rattle.lists.proofs.Filtering.{filter_yes, filter_no, filter_append, filter_all, filter_none, all_filter, last_append}
 use Rattle.lists.proofs.Splits.{in_split}
 use Rattle.lists.proofs.Writing.{written_none, written_length, written_append, written_one}
 use Rattle.sizes.specs.Rank.{key_of}
 use Rattle.rows.specs.Rows.{links}
 use Rattle.levels.specs.Levels.{walk, onward, order_of}
-use Rattle.levels.specs.Nearest.{Lowest, Walkable}
+use Rattle.levels.specs.Nearest.{Walkable}
 use Rattle.levels.proofs.Orders.{link_part, onward_part}
 use Rattle.levels.proofs.Nearing.{walk_on, walk_less}
 use Rattle.ranges.specs.declared.Walked.{Walked}
-use Rattle.ranges.specs.Walk.{may_rest, Walk, stops, needed, handed, finished, rest_after, keys_of, values_of, WalkReady, WalkedBy}
+use Rattle.ranges.specs.Walk.{may_rest, Walk, stops, needed, handed, finished, keys_of, values_of, WalkReady, WalkedBy}
 use Rattle.ranges.proofs.Mapping.{map_snoc, filter_shorter}
 
 -- ---- along the lowest level (laws that belong to `levels`)

@@ -1,27 +1,26 @@
 -- The tables' cells after a linked node that is not present is freed.
 -- Assumes nothing.
-use mathlib.Core.Path.{◌≡◌, refl, sym, ap, ◌∙◌}
+use mathlib.Core.Path.{◌≡◌, sym, ap, ◌∙◌}
 use mathlib.Core.Logic.{◌≢◌}
-use mathlib.Core.List.{List, [], ◌∷◌, map}
-use Prim.Native.Nat.{ℕ, suc, ◌≤◌, ◌<◌, ◌+◌, ◌*◌}
+use mathlib.Core.List.{List, ◌∷◌}
+use Prim.Native.Nat.{ℕ, ◌≤◌, ◌<◌, ◌+◌, ◌*◌}
 use native.Mathlib.Omega.{arith}
 use lib.ListN.{length}
 use lib.IntN.{ℤ}
 use Rattle.lists.specs.Holds.{All}
 use Rattle.lists.specs.Filters.{without}
 use Rattle.lists.specs.Members.{In, Differ}
-use Rattle.lists.proofs.Holding.{all_imp, all_imp₂, all_every}
+use Rattle.lists.proofs.Holding.{all_imp₂, all_every}
 use Rattle.lists.proofs.Filtering.{all_filter}
 use Rattle.lists.proofs.Splits.{all_in, without_differ}
-use Rattle.rows.specs.Rows.{column, upd, heights, insertions, removals, places, chains, links}
+use Rattle.rows.specs.Rows.{column, upd, heights, places, links}
 use Rattle.rows.proofs.Columns.{upd_other}
-use Rattle.levels.specs.Levels.{order_of, Linked}
+use Rattle.levels.specs.Levels.{order_of}
 use Rattle.levels.specs.Stitch.{unstitched}
 use Rattle.levels.proofs.Joining.{length_unstitched, unstitched_field}
 use Rattle.levels.proofs.Orders.{order_kept, linked_kept}
 use Rattle.levels.proofs.Stitching.{unstitch_ready, unstitch_order, unstitch_linked}
-use Rattle.places.specs.Places.{Sized, Places, Counted, free_of, ring_of}
-use Rattle.places.specs.Changes.{released}
+use Rattle.places.specs.Places.{Sized, Places, free_of, ring_of}
 use Rattle.places.proofs.Stores.{Elsewhere}
 use Rattle.places.proofs.Frames.{Same, same_free, same_ring, same_counted, same_kept}
 use Rattle.places.proofs.Members.{not_free, free_room}
@@ -30,8 +29,8 @@ use Rattle.places.proofs.Counting.{released_counted}
 use Rattle.buckets.specs.Buckets.{Buckets}
 use Rattle.buckets.proofs.Keeping.{buckets_placed}
 use Rattle.model.specs.Model as M
-use Rattle.tables.specs.Tables.{levels_of, Memory, Used, node_at, nodes_of}
-use Rattle.tables.proofs.Viewing.{nodes_same, nodes_kept, shows_without}
+use Rattle.tables.specs.Tables.{levels_of, Memory, Used, nodes_of}
+use Rattle.tables.proofs.Viewing.{nodes_kept, shows_without}
 use Rattle.returns.specs.Freeing.{Freeable, freed}
 
 module _ (rows : List ℕ) (cap n : ℕ) (size : Sized rows cap) (known : 0 < levels_of cap) (m : Memory rows cap) (i : In n (order_of rows cap)) where

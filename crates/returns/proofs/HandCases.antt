@@ -17,7 +17,7 @@ use Rattle.tables.specs.declared.Coordinator.{Coordinator}
 use Rattle.tables.specs.Tables.{ticket_at}
 use Rattle.returns.specs.Freeing.{freed}
 use Rattle.returns.specs.HandOver.{handing, handed_rows, handed_tickets, HandedOver}
-use Rattle.returns.specs.Sweep.{SweptBy, swept_due, with_due}
+use Rattle.returns.specs.Sweep.{SweptBy, with_due}
 
 module _ (rows : List ℕ) (cap : ℕ) (ts : List Ticket) (k n : ℕ) where
   pub handed : {rows' : List ℕ} {ts' : List Ticket} (h : Handed) → handing rows cap ts k n ≡ h → rows' ≡ handed_rows h rows cap n → ts' ≡ handed_tickets h ts k → HandedOver rows rows' cap ts ts' k n h

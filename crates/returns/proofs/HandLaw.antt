@@ -1,22 +1,22 @@
 -- What the cells of a hand-over mean: the model's answer, the model's next state, and sound tables.
 -- Assumes nothing.
-use mathlib.Core.Path.{◌≡◌, refl, sym, ap, ◌∙◌, subst}
+use mathlib.Core.Path.{◌≡◌, refl, ap, ◌∙◌, subst}
 use mathlib.Core.Logic.{◌≢◌, ⊎_elim}
 use mathlib.Core.Bool.{Bool, true, false, cond}
-use mathlib.Core.List.{List, [], ◌∷◌, ◌++◌, map}
+use mathlib.Core.List.{List, [], ◌∷◌}
 use mathlib.Core.Option.{some}
 use Prim.Native.Nat.{ℕ, zero, suc, ◌≤◌, ◌<◌, ◌+◌, ◌-◌, ◌*◌}
 use native.Mathlib.Omega.{arith}
 use native.Mathlib.Decide.{ℕ_discrete, dec_le}
 use lib.ListN.{length, length-set, take, set}
 use lib.Dec.{eqb}
-use borrow.Author.Tests.{eq-eqb, ne_eqb, le-leb, lt-leb}
+use borrow.Author.Tests.{ne_eqb, le-leb, lt-leb}
 use Rattle.lists.specs.Holds.{All}
 use Rattle.lists.specs.Filters.{filter, first, last}
 use Rattle.lists.specs.Members.{In, Differ, Split}
 use Rattle.lists.proofs.Holding.{all_imp, all_every}
 use Rattle.lists.proofs.Splits.{in_split, split_in}
-use Rattle.rows.specs.Rows.{column, upd, heights, insertions, removals, places, chains, links}
+use Rattle.rows.specs.Rows.{column, upd, heights, insertions, removals, places, links}
 use Rattle.rows.proofs.Columns.{upd_same, upd_other}
 use Rattle.levels.specs.Levels.{order_of}
 use Rattle.levels.proofs.Orders.{order_kept, linked_kept}
@@ -27,21 +27,19 @@ use Rattle.places.proofs.Members.{not_free, not_retired, ring_room}
 use Rattle.places.proofs.Retiring.{retired_length, retired_elsewhere, retired_free, retired_places, retired_ring, retired_kept}
 use Rattle.places.proofs.Counting.{retired_counted}
 use Rattle.places.proofs.Lists.{ring_length}
-use Rattle.buckets.specs.Buckets.{Buckets}
 use Rattle.buckets.proofs.Keeping.{buckets_placed}
 use Rattle.model.specs.Model as M
-use Rattle.model.specs.Calls.{Call, Answer, hand_over, refused, handed}
+use Rattle.model.specs.Calls.{hand_over, refused, handed}
 use Rattle.model.specs.Answers.{of_handed}
 use Rattle.model.specs.declared.Handed.{Handed}
 use Rattle.model.specs.declared.Handed.TheVariants.{Refused, Freed, Held}
 use Rattle.tables.specs.declared.Ticket.{Ticket}
-use Rattle.tables.specs.Tables.{Tables, capacity_of, levels_of, Lengths, Memory, Used, Resting, Sound, Met, view, place_of, node_at, nodes_of, range_of, ranges_of, ticket_at, gained}
+use Rattle.tables.specs.Tables.{Tables, capacity_of, levels_of, Memory, Used, Resting, Sound, Met, view, place_of, node_at, nodes_of, range_of, ranges_of, ticket_at, gained}
 use Rattle.tables.proofs.Viewing.{shows, shows_none, nodes_moved}
 use Rattle.tables.proofs.Ranging.{range_last, range_hold, range_held}
-use Rattle.tables.proofs.Telling.{found_or_not, sound_capacity, sound_sized, sound_covered, sound_whole}
+use Rattle.tables.proofs.Telling.{found_or_not, sound_sized, sound_covered, sound_whole}
 use Rattle.tables.proofs.Meeting.{met, met_same}
-use Rattle.returns.specs.Freeing.{freed}
-use Rattle.returns.specs.HandOver.{handing, handed_rows, handed_tickets, HandReady, handed_tables, handing_of}
+use Rattle.returns.specs.HandOver.{handed_tickets, HandReady, handed_tables, handing_of}
 use Rattle.returns.proofs.HandCases.{case_far, case_other, case_none, case_new, case_old}
 use Rattle.returns.proofs.Freeing.{freeable, freed_size, freed_memory, freed_buckets, freed_free, freed_ring, freed_nodes}
 

@@ -1,16 +1,15 @@
 -- What the cells of a sweep mean: the model's answer, the model's next state, and sound tables.
 -- Assumes nothing.
-use mathlib.Core.Path.{◌≡◌, refl, sym, ap, ◌∙◌}
+use mathlib.Core.Path.{◌≡◌, refl, ap, ◌∙◌}
 use mathlib.Core.Logic.{◌≢◌}
-use mathlib.Core.List.{List, [], ◌∷◌, map}
+use mathlib.Core.List.{List, ◌∷◌, map}
 use Prim.Native.Nat.{ℕ, zero, suc, ◌≤◌, ◌<◌, ◌+◌, ◌*◌}
 use native.Mathlib.Omega.{arith}
 use lib.ListN.{length}
-use Rattle.lists.specs.Holds.{All}
 use Rattle.lists.specs.Members.{In}
 use Rattle.lists.proofs.Holding.{all_every}
 use Rattle.lists.proofs.Splits.{split_in}
-use Rattle.rows.specs.Rows.{column, heights, places, chains, links}
+use Rattle.rows.specs.Rows.{column, heights, places, links}
 use Rattle.levels.specs.Levels.{order_of}
 use Rattle.levels.proofs.Orders.{order_kept, linked_kept}
 use Rattle.places.specs.Places.{Sized, ring_of, first_retired}
@@ -22,10 +21,10 @@ use Rattle.buckets.proofs.Keeping.{buckets_kept}
 use Rattle.model.specs.Model as M
 use Rattle.model.specs.Calls.{sweep, swept}
 use Rattle.model.specs.Answers.{of_swept}
-use Rattle.tables.specs.Tables.{Tables, capacity_of, levels_of, Memory, Used, Sound, Met, view, node_at, nodes_of}
+use Rattle.tables.specs.Tables.{Tables, capacity_of, levels_of, Memory, Sound, Met, view, nodes_of}
 use Rattle.tables.proofs.Viewing.{nodes_same}
 use Rattle.tables.proofs.Telling.{sound_sized, sound_covered, sound_whole}
-use Rattle.tables.proofs.Meeting.{met, met_same}
+use Rattle.tables.proofs.Meeting.{met}
 use Rattle.returns.specs.Sweep.{SweepReady, sweeping, swept_tables}
 use Rattle.returns.proofs.Freeing.{freeable, freed_size, freed_memory, freed_buckets, freed_free, freed_ring, freed_nodes}
 

@@ -1,6 +1,6 @@
 -- Sweep: its answer, and what it does to the cells and the coordinator.
 -- Assumes nothing.
-use Rattle.std.specs.Prelude.{◌≡◌, List, ℕ, zero, suc, ◌<◌, ◌≤◌, length}
+use Rattle.std.specs.Prelude.{◌≡◌, List, ℕ, zero, suc, ◌<◌, length}
 use Rattle.places.specs.Places.{Sized, ring_of, ring_front, first_retired}
 use Rattle.places.specs.Changes.{taken}
 use Rattle.model.specs.declared.Swept.{Swept}

@@ -1,15 +1,15 @@
 -- What the hash table finds is what the view's order has.
 -- Assumes nothing.
 use mathlib.Core.Path.{◌≡◌, refl, sym, ap, ap₂, ◌∙◌, subst}
-use mathlib.Core.Logic.{◌≢◌, ◌⊎◌, inl, inr, ⊎_elim}
+use mathlib.Core.Logic.{◌≢◌, inl, inr, ⊎_elim}
 use mathlib.Core.Bool.{Bool, true, false, cond, ◌&&◌, true≢false}
-use mathlib.Core.List.{List, [], ◌∷◌, ◌++◌, map}
-use mathlib.Core.Option.{Option, none, some}
+use mathlib.Core.List.{List, [], ◌∷◌, map}
+use mathlib.Core.Option.{none, some}
 use Prim.Native.Nat.{ℕ, ◌≤◌, ◌<◌}
 use native.Mathlib.Omega.{arith}
 use native.Mathlib.Decide.{ℕ_discrete}
 use lib.ListN.{get_or}
-use lib.Dec.{eqb, leb}
+use lib.Dec.{eqb}
 use lib.IntN.{ℤ}
 use lib.Signed.{le_z, lt_z}
 use mir.Syntax.{w64}
@@ -17,14 +17,13 @@ use mir.Val.{SFits}
 use borrow.Author.Tests.{eq-eqb, ne_eqb, eqb-true, leb-true, le-leb, le-ltb}
 use Rattle.lists.specs.Holds.{All, Pairwise}
 use Rattle.lists.specs.Filters.{filter, first}
-use Rattle.lists.specs.Members.{In, Differ}
+use Rattle.lists.specs.Members.{In}
 use Rattle.lists.proofs.Filtering.{filter_none}
-use Rattle.lists.proofs.Splits.{in_all, all_in}
+use Rattle.lists.proofs.Splits.{all_in}
 use Rattle.sizes.specs.Rank.{rank_of, key_of}
 use Rattle.sizes.proofs.Ranking.{key_rank, keys_leb, keys_ltb}
 use Rattle.rows.specs.Rows.{places, removals}
 use Rattle.levels.specs.Levels.{order_of}
-use Rattle.buckets.specs.declared.Found.{Found}
 use Rattle.buckets.specs.declared.Found.TheVariants.{At, Nothing}
 use Rattle.buckets.specs.Finding.{found, Holds}
 use Rattle.buckets.proofs.Finding.{finds}
@@ -35,7 +34,7 @@ use Rattle.model.specs.Model as M
 use Rattle.model.specs.WellFormed.{Before}
 use Rattle.model.proofs.Order.{eq_z_eq, eq_z_refl}
 use Rattle.model.proofs.Effects.{get_shown}
-use Rattle.tables.specs.Tables.{Tables, capacity_of, Sound, view, place_of, node_at, nodes_of}
+use Rattle.tables.specs.Tables.{Tables, capacity_of, Sound, view, place_of, node_at}
 use Rattle.tables.proofs.Viewing.{all_nodes}
 use Rattle.tables.proofs.Telling.{sound_filled}
 

@@ -1,7 +1,7 @@
 -- A call that meets the model leaves sound tables: what it still has to show.
 -- Assumes nothing.
 use mathlib.Core.Path.{◌≡◌, subst}
-use Prim.Native.Nat.{ℕ, ◌≤◌}
+use Prim.Native.Nat.{◌≤◌}
 use lib.ListN.{take}
 use Rattle.lists.specs.Holds.{All}
 use Rattle.buckets.specs.Buckets.{Buckets}

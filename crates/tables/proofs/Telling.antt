@@ -1,10 +1,10 @@
 -- What sound tables tell: what the calls rely on.
 -- Assumes nothing.
-use mathlib.Core.Path.{◌≡◌, refl, sym, ap, ◌∙◌}
+use mathlib.Core.Path.{◌≡◌, refl, sym, ◌∙◌}
 use mathlib.Core.Logic.{◌≢◌, ◌⊎◌, inl, inr, ⊎_elim, by_cases}
 use mathlib.Core.Bool.{Bool, true, false, cond}
-use mathlib.Core.List.{List, [], ◌∷◌, ◌++◌, map}
-use Prim.Native.Nat.{ℕ, zero, suc, ◌≤◌, ◌<◌, ◌+◌, ◌*◌}
+use mathlib.Core.List.{List, [], ◌∷◌, map}
+use Prim.Native.Nat.{ℕ, ◌≤◌, ◌<◌, ◌+◌}
 use native.Mathlib.Omega.{arith}
 use native.Mathlib.Decide.{ℕ_discrete}
 use lib.ListN.{length, get_or, length-map}
@@ -12,22 +12,21 @@ use lib.IntN.{ℤ}
 use lib.Signed.{lt_z, le_z}
 use borrow.Author.Tests.{leb-true, ltb-true}
 use Rattle.lists.specs.Holds.{All, Pairwise}
-use Rattle.lists.specs.Members.{In, Distinct, Differ, Split}
+use Rattle.lists.specs.Members.{In, Differ, Split}
 use Rattle.lists.proofs.Holding.{all_imp}
-use Rattle.lists.proofs.Splits.{differ_distinct, in_split, all_in}
+use Rattle.lists.proofs.Splits.{differ_distinct, in_split}
 use Rattle.sizes.specs.Rank.{key_of}
 use Rattle.sizes.proofs.Ranking.{keys_leb, keys_ltb}
 use Rattle.rows.specs.Rows.{places}
-use Rattle.levels.specs.Levels.{order_of, Linked}
+use Rattle.levels.specs.Levels.{order_of}
 use Rattle.levels.specs.Nearest.{Lowest}
 use Rattle.levels.specs.Search.{Rising, Searchable}
 use Rattle.levels.proofs.Orders.{linked_lowest}
-use Rattle.places.specs.Places.{Sized, free_of, ring_of, free_count, ring_count}
-use Rattle.places.proofs.Lists.{free_length, ring_length}
+use Rattle.places.specs.Places.{Sized, free_of, ring_of}
 use Rattle.places.proofs.Covering.{Filled, covered}
 use Rattle.model.specs.Model as M
-use Rattle.model.specs.WellFormed.{WellFormed, Before}
-use Rattle.tables.specs.Tables.{Tables, capacity_of, Sound, view, levels_of, node_at, nodes_of, ranges_of}
+use Rattle.model.specs.WellFormed.{Before}
+use Rattle.tables.specs.Tables.{Tables, capacity_of, Sound, view, levels_of, node_at, ranges_of}
 use Rattle.tables.proofs.Capacities.{Capacity, capacity}
 
 -- a node in the order or not

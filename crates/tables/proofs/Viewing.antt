@@ -1,16 +1,16 @@
 -- What the view shows of a node, and how it changes where one node changes.
 -- Assumes nothing.
-use mathlib.Core.Path.{◌≡◌, refl, sym, ap, ap₂, ◌∙◌, fun_ext}
+use mathlib.Core.Path.{◌≡◌, refl, sym, ap, ap₂, fun_ext}
 use mathlib.Core.Logic.{◌≢◌}
-use mathlib.Core.Bool.{Bool, true, false, not, cond}
+use mathlib.Core.Bool.{Bool, true, false, not}
 use mathlib.Core.List.{List, [], ◌∷◌, ◌++◌, map}
 use mathlib.Core.Option.{some}
-use Prim.Native.Nat.{ℕ, ◌<◌}
+use Prim.Native.Nat.{ℕ}
 use native.Mathlib.Decide.{ℕ_discrete}
 use lib.Dec.{eqb}
 use lib.IntN.{ℤ}
 use borrow.Author.Tests.{eq-eqb, ne_eqb}
-use Rattle.lists.specs.Holds.{All, Pairwise}
+use Rattle.lists.specs.Holds.{All}
 use Rattle.lists.specs.Filters.{keep, filter, first, without}
 use Rattle.lists.specs.Members.{Differ}
 use Rattle.rows.specs.Rows.{upd, heights, insertions, removals, places}

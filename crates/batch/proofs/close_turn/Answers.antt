@@ -1,5 +1,4 @@
 -- `batch::close_turn` meets its contract.
-use borrow.Author.Rules.{rules}
 use Rattle.batch.proofs.close_turn.Goals as goal
 
 pub returns : goal.returns

@@ -1,7 +1,6 @@
 -- `batch::closed_cells` meets its contract: one law for each case.
 use Rattle.model.specs.Answers.{of_closed}
 use Rattle.batch.proofs.Celling.{cells_as}
-use borrow.Author.Rules.{rules}
 use Rattle.batch.proofs.closed_cells.Goals as goal
 
 pub returns-in-Due : goal.returns-in-Due

@@ -2,7 +2,6 @@
 use mathlib.Core.Path.{refl}
 use mir.Syntax.{w64}
 use mir.ValLaws.{to_z-of_z}
-use borrow.Author.Rules.{rules}
 use Rattle.batch.proofs.fast_reply.Goals as goal
 
 pub returns : goal.returns

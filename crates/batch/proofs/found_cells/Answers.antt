@@ -2,7 +2,6 @@
 use Rattle.model.specs.declared.Found.TheVariants.{Value}
 use Rattle.model.specs.Answers.{of_found}
 use Rattle.batch.proofs.Celling.{cells_as, cells_signed}
-use borrow.Author.Rules.{rules}
 use Rattle.batch.proofs.found_cells.Goals as goal
 
 pub returns-in-Value : goal.returns-in-Value

@@ -1,5 +1,4 @@
 -- `batch::hand_over_turn` meets its contract.
-use borrow.Author.Rules.{rules}
 use Rattle.batch.proofs.hand_over_turn.Goals as goal
 
 pub returns : goal.returns

@@ -1,7 +1,6 @@
 -- `batch::handed_cells` meets its contract: one law for each case.
 use Rattle.model.specs.Answers.{of_handed}
 use Rattle.batch.proofs.Celling.{cells_as}
-use borrow.Author.Rules.{rules}
 use Rattle.batch.proofs.handed_cells.Goals as goal
 
 pub returns-in-Freed : goal.returns-in-Freed

@@ -1,8 +1,5 @@
 use native.Mathlib.Omega.{arith}
 use Rattle.batch.proofs.Celling.{small}
-use borrow.Author.Rules.{rules}
-use Rattle.batch.proofs.integer.Reads as reads
-use Rattle.batch.proofs.integer.Lts as lts
 use Rattle.batch.proofs.integer.Goals as goal
 
 pub returns : goal.returns

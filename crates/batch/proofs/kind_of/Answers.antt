@@ -6,7 +6,6 @@ use lib.Signed.{mag}
 use Rattle.transactions.specs.declared.Call.{Call}
 use Rattle.transactions.specs.declared.Call.TheVariants.{Lookup, Insert, Remove, Ceil, Floor, Succ, Pred, Fast, Open}
 use Rattle.batch.proofs.Turning.{back, told}
-use borrow.Author.Rules.{rules}
 use Rattle.batch.proofs.kind_of.Goals as goal
 
 -- a call of one signed number, of two, as it comes out

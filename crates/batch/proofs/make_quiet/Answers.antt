@@ -17,7 +17,6 @@ use Rattle.batch.specs.Cells.{cells_of}
 use Rattle.batch.specs.Turns.{turn_tables, quiet_call}
 use Rattle.batch.proofs.Turning.{as_plain, lookup_turned, insert_turned, remove_turned, nearest_turned, tally_turned}
 use Rattle.batch.proofs.Pairing.{fast_turned}
-use borrow.Author.Rules.{rules}
 use Rattle.batch.proofs.make_quiet.Goals as goal
 use Rattle.batch.proofs.make_quiet.Goals.{Start}
 

@@ -12,7 +12,6 @@ use Rattle.ranges.proofs.CloseLaw.{close_ready}
 use Rattle.batch.specs.Turns.{ticketed_call}
 use Rattle.batch.proofs.Turning.{hand_turned, open_turned, close_turned, sweep_turned}
 use Rattle.batch.proofs.Pairing.{step_turned}
-use borrow.Author.Rules.{rules}
 use Rattle.batch.proofs.make_ticketed.Goals as goal
 use Rattle.batch.proofs.make_ticketed.Goals.{Start}
 

@@ -2,7 +2,6 @@
 use Rattle.model.specs.declared.Nearest.TheVariants.{Key}
 use Rattle.model.specs.Answers.{of_nearest}
 use Rattle.batch.proofs.Celling.{cells_as, cells_signed}
-use borrow.Author.Rules.{rules}
 use Rattle.batch.proofs.nearest_cells.Goals as goal
 
 pub returns-in-Key : goal.returns-in-Key

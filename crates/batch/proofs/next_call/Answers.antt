@@ -2,7 +2,6 @@
 use mathlib.Core.Path.{subst}
 use Rattle.transactions.specs.Readings.{CallRead}
 use Rattle.lists.proofs.Answers.{failed, passed}
-use borrow.Author.Rules.{rules}
 use Rattle.batch.proofs.next_call.Goals as goal
 
 pub returns-then-not-has_room : goal.returns-then-not-has_room

@@ -1,7 +1,6 @@
 -- `batch::numbers` meets its contract.
 use native.Mathlib.Omega.{arith}
 use Rattle.batch.proofs.Celling.{cell}
-use borrow.Author.Rules.{rules}
 use Rattle.batch.proofs.numbers.Goals as goal
 
 pub returns : goal.returns

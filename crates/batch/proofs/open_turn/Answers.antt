@@ -1,7 +1,6 @@
 -- `batch::open_turn` meets its contract.
 use mir.Syntax.{w64}
 use mir.ValLaws.{to_z-of_z}
-use borrow.Author.Rules.{rules}
 use Rattle.batch.proofs.open_turn.Goals as goal
 
 pub returns : goal.returns

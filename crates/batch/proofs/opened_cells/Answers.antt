@@ -1,7 +1,6 @@
 -- `batch::opened_cells` meets its contract: one law for each case.
 use Rattle.model.specs.Answers.{of_opened}
 use Rattle.batch.proofs.Celling.{cells_as}
-use borrow.Author.Rules.{rules}
 use Rattle.batch.proofs.opened_cells.Goals as goal
 
 pub returns-in-At : goal.returns-in-At

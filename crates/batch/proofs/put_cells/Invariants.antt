@@ -1,17 +1,8 @@
 -- `batch::put_cells` meets its contract. The invariant: the first i cells stand at their places.
-use mathlib.Core.Path.{◌≡◌, refl, sym, ap, ◌∙◌}
-use mathlib.Core.List.{List}
-use Prim.Native.Nat.{ℕ, ◌≤◌, ◌<◌, ◌-◌, ◌+◌}
-use native.Mathlib.Omega.{arith}
-use lib.ListN.{length, get_or, set, take, length-set}
-use lib.Seq.{take_all}
-use lib.IntN.{ℤ, pos}
-use mir.Syntax.{w64}
-use mir.ValLaws.{to_z-of_z}
-use borrow.Author.Rules.{rules}
+use mathlib.Core.Path.{◌≡◌}
+use Prim.Native.Nat.{◌≤◌, ◌-◌, ◌+◌}
+use lib.ListN.{length, take}
 use Rattle.lists.specs.Buffers.{written}
-use Rattle.lists.proofs.Writing.{written_none}
-use Rattle.batch.proofs.Parts.{written_next}
 use Rattle.batch.proofs.put_cells.Given as goal
 
 abbrev pub invariant-loop-i : goal.invariant-loop-i

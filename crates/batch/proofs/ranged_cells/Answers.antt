@@ -2,7 +2,6 @@
 use mathlib.Core.List.{[]}
 use Rattle.model.specs.Answers.{of_ranged}
 use Rattle.batch.proofs.Celling.{cells_as}
-use borrow.Author.Rules.{rules}
 use Rattle.batch.proofs.ranged_cells.Goals as goal
 
 pub returns-in-Pairs : goal.returns-in-Pairs

@@ -1,13 +1,9 @@
 -- `batch::run_calls` meets its contract. The invariant: what was made so far, on tables that are sound; the measure is how many bytes are left.
-use mathlib.Core.Path.{◌≡◌, refl, ◌∙◌, subst}
-use Prim.Native.Nat.{◌-◌}
+use mathlib.Core.Path.{refl, ◌∙◌, subst}
 use native.Mathlib.Omega.{arith}
-use lib.ListN.{length}
-use Rattle.soundness.specs.Tested.{lent}
-use Rattle.batch.specs.Lists.{Comes, input_of}
+use Rattle.batch.specs.Lists.{Comes}
 use Rattle.batch.proofs.Laying.{kind_laid}
-use Rattle.batch.proofs.Listing.{Sofar, sofar_none, sofar_turn, sofar_ends, next_ends, next_less, out_length, keys_length, values_length}
-use borrow.Author.Rules.{rules}
+use Rattle.batch.proofs.Listing.{sofar_none, sofar_turn, sofar_ends, next_ends, next_less, out_length, keys_length, values_length}
 use Rattle.batch.proofs.run_calls.Goals as goal
 
 pub loop-call-init : goal.loop-call-init

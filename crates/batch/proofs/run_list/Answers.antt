@@ -1,7 +1,6 @@
 -- `batch::run_list` meets its contract: the test decides whether the list is refused or run.
 use Rattle.lists.proofs.Answers.{passed}
 use Rattle.batch.proofs.Listing.{ran_refused, ran_lists}
-use borrow.Author.Rules.{rules}
 use Rattle.batch.proofs.run_list.Goals as goal
 
 pub returns-then-not-sound : goal.returns-then-not-sound

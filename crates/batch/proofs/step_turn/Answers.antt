@@ -1,6 +1,5 @@
 -- `batch::step_turn` meets its contract.
 use mathlib.Core.Path.{sym}
-use native.Mathlib.Omega.{arith}
 use lib.Seq.{length-take-le}
 use Rattle.batch.proofs.Pairing.{step_turn_lem}
 use borrow.Author.Rules.{rules}

@@ -4,7 +4,6 @@ use mathlib.Core.List.{[]}
 use Rattle.model.specs.declared.Stepped.TheVariants.{Pairs}
 use Rattle.model.specs.Answers.{of_stepped}
 use Rattle.batch.proofs.Celling.{cells_as}
-use borrow.Author.Rules.{rules}
 use Rattle.batch.proofs.stepped_cells.Goals as goal
 
 pub returns-then-finished : goal.returns-then-finished

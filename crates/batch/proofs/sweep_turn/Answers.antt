@@ -1,5 +1,4 @@
 -- `batch::sweep_turn` meets its contract.
-use borrow.Author.Rules.{rules}
 use Rattle.batch.proofs.sweep_turn.Goals as goal
 
 pub returns : goal.returns

@@ -1,7 +1,6 @@
 -- `batch::swept_cells` meets its contract: one law for each case.
 use Rattle.model.specs.Answers.{of_swept}
 use Rattle.batch.proofs.Celling.{cells_as}
-use borrow.Author.Rules.{rules}
 use Rattle.batch.proofs.swept_cells.Goals as goal
 
 pub returns-in-Nodes : goal.returns-in-Nodes

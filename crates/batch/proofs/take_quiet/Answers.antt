@@ -1,9 +1,8 @@
 -- `batch::take_quiet` meets its contract: a turn in the next places.
 use Prim.Native.Nat.{◌+◌, ◌-◌}
 use native.Mathlib.Omega.{arith}
-use lib.ListN.{length, drop, length-take, length-drop}
+use lib.ListN.{drop, length-take, length-drop}
 use Rattle.batch.proofs.Laying.{turn_laid}
-use borrow.Author.Rules.{rules}
 use Rattle.batch.proofs.take_quiet.Goals as goal
 
 pub make_quiet-reply-requires : goal.make_quiet-reply-requires

@@ -1,7 +1,6 @@
 -- `batch::tallied_cells` meets its contract: one law for each case.
 use Rattle.model.specs.Answers.{of_tallied}
 use Rattle.batch.proofs.Celling.{cells_as}
-use borrow.Author.Rules.{rules}
 use Rattle.batch.proofs.tallied_cells.Goals as goal
 
 pub returns-in-Counts : goal.returns-in-Counts

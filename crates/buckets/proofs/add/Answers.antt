@@ -1,7 +1,6 @@
 -- `buckets::add` meets its contract.
 use mathlib.Core.Path.{◌∙◌}
 use Rattle.buckets.specs.Changes.{rows_with, buckets_with}
-use borrow.Author.Rules.{rules}
 use Rattle.buckets.proofs.add.Goals as goal
 
 pub returns : goal.returns

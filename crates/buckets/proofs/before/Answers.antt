@@ -1,11 +1,7 @@
 -- `buckets::before` meets its contract.
-use mathlib.Core.Path.{◌≡◌, refl, sym, ◌∙◌}
+use mathlib.Core.Path.{refl, sym, ◌∙◌}
 use native.Mathlib.Omega.{arith}
-use lib.ListN.{length}
-use Rattle.rows.specs.Rows.{chains}
-use Rattle.buckets.specs.Chains.{chain_from}
-use Rattle.buckets.specs.Changes.{prior}
-use Rattle.buckets.proofs.Walks.{Ahead, ahead, prior_next, prior_less, prior_more, prior_end}
+use Rattle.buckets.proofs.Walks.{ahead, prior_next, prior_less, prior_more, prior_end}
 use Rattle.buckets.proofs.before.Goals as goal
 
 pub loop-cap-init : goal.loop-cap-init

@@ -1,12 +1,9 @@
 -- `buckets::buckets_ok` meets its contract.
 use mathlib.Core.Path.{◌≡◌}
-use Prim.Native.Nat.{◌≤◌, ◌-◌}
 use native.Mathlib.Omega.{arith}
 use lib.ListN.{length}
-use borrow.Author.Rules.{rules}
 use Rattle.lists.proofs.Answers.{no, over}
-use Rattle.buckets.specs.Buckets.{Room}
-use Rattle.buckets.proofs.Testing.{Passed, test_none, test_more, test_bad, test_says}
+use Rattle.buckets.proofs.Testing.{test_none, test_more, test_bad, test_says}
 use Rattle.buckets.proofs.buckets_ok.Goals as goal
 
 pub wide-requires : goal.wide-requires

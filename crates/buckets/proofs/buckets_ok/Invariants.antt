@@ -1,12 +1,8 @@
 -- `buckets::buckets_ok` meets its contract.
-use mathlib.Core.Path.{◌≡◌}
 use Prim.Native.Nat.{◌≤◌, ◌-◌}
-use native.Mathlib.Omega.{arith}
 use lib.ListN.{length}
-use borrow.Author.Rules.{rules}
-use Rattle.lists.proofs.Answers.{no, over}
 use Rattle.buckets.specs.Buckets.{Room}
-use Rattle.buckets.proofs.Testing.{Passed, test_none, test_more, test_bad, test_says}
+use Rattle.buckets.proofs.Testing.{Passed}
 use Rattle.buckets.proofs.buckets_ok.Given as goal
 
 abbrev pub invariant-loop-b : goal.invariant-loop-b

@@ -1,10 +1,6 @@
 -- `buckets::chain_ok` meets its contract.
 use mathlib.Core.Path.{sym, ◌∙◌}
-use Prim.Native.Nat.{◌-◌}
 use native.Mathlib.Omega.{arith}
-use Rattle.rows.specs.Rows.{chains}
-use Rattle.buckets.specs.Testing.{Fits, Walks}
-use Rattle.buckets.specs.declared.Walked.{Walked}
 use Rattle.buckets.specs.declared.Walked.TheVariants.{Rest, Bad}
 use Rattle.buckets.proofs.Walks.{walk_end, walk_more, start_of}
 use Rattle.buckets.proofs.chain_ok.Goals as goal

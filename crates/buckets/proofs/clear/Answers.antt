@@ -1,11 +1,8 @@
 -- `buckets::clear` meets its contract.
-use mathlib.Core.Path.{◌≡◌, refl}
-use Prim.Native.Nat.{ℕ, ◌≤◌, ◌<◌, ◌-◌}
+use mathlib.Core.Path.{refl}
 use native.Mathlib.Omega.{arith}
-use lib.ListN.{length, length-set}
+use lib.ListN.{length-set}
 use borrow.Author.Count.{below_none}
-use borrow.Author.Rules.{rules}
-use Rattle.buckets.specs.Chains.{nth}
 use Rattle.buckets.proofs.Walks.{filled, filled_more}
 use Rattle.buckets.proofs.clear.Goals as goal
 

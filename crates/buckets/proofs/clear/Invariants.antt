@@ -1,12 +1,8 @@
 -- `buckets::clear` meets its contract.
-use mathlib.Core.Path.{◌≡◌, refl}
+use mathlib.Core.Path.{◌≡◌}
 use Prim.Native.Nat.{ℕ, ◌≤◌, ◌<◌, ◌-◌}
-use native.Mathlib.Omega.{arith}
-use lib.ListN.{length, length-set}
-use borrow.Author.Count.{below_none}
-use borrow.Author.Rules.{rules}
+use lib.ListN.{length}
 use Rattle.buckets.specs.Chains.{nth}
-use Rattle.buckets.proofs.Walks.{filled, filled_more}
 use Rattle.buckets.proofs.clear.Given as goal
 
 abbrev pub invariant-loop-i : goal.invariant-loop-i

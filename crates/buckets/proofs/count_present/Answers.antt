@@ -1,7 +1,6 @@
 -- `buckets::count_present` meets its contract.
 use mathlib.Core.Path.{◌≡◌, refl, ◌∙◌, sym, ap}
-use mathlib.Core.Logic.{⊎_elim}
-use Prim.Native.Nat.{ℕ, ◌≤◌, ◌-◌}
+use Prim.Native.Nat.{ℕ}
 use native.Mathlib.Omega.{arith}
 use lib.ListN.{length}
 use Rattle.buckets.specs.Testing.{presents}
@@ -30,8 +29,8 @@ loop-node-preserved c =
     let rows = c.args.rows.now in
     let e = c.cell.ensures in
     elim c.if-cell-eq-IS_PRESENT.branch [
-      then-cell-eq-IS_PRESENT w ↦ (omega arith, (omega (arith, presents_yes rows v.node (sym e ∙ w.if-cell-eq-IS_PRESENT.true)), omega arith))
-    | else-cell-eq-IS_PRESENT w ↦ (omega arith, (omega (arith, presents_no rows v.node (λ q. w.if-cell-eq-IS_PRESENT.false (e ∙ q))), omega arith))
+      | then-cell-eq-IS_PRESENT w ↦ (omega arith, (omega (arith, presents_yes rows v.node (sym e ∙ w.if-cell-eq-IS_PRESENT.true)), omega arith))
+      | else-cell-eq-IS_PRESENT w ↦ (omega arith, (omega (arith, presents_no rows v.node (λ q. w.if-cell-eq-IS_PRESENT.false (e ∙ q))), omega arith))
     ]
 
 pub returns : goal.returns

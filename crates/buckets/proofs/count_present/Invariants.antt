@@ -1,11 +1,8 @@
 -- `buckets::count_present` meets its contract.
-use mathlib.Core.Path.{◌≡◌, refl, ◌∙◌, sym, ap}
-use mathlib.Core.Logic.{⊎_elim}
-use Prim.Native.Nat.{ℕ, ◌≤◌, ◌-◌}
-use native.Mathlib.Omega.{arith}
+use mathlib.Core.Path.{◌≡◌}
+use Prim.Native.Nat.{◌≤◌, ◌-◌}
 use lib.ListN.{length}
 use Rattle.buckets.specs.Testing.{presents}
-use Rattle.buckets.proofs.Walks.{presents_yes, presents_no}
 use Rattle.buckets.proofs.count_present.Given as goal
 
 abbrev pub invariant-loop-node : goal.invariant-loop-node

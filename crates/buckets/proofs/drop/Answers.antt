@@ -2,7 +2,6 @@
 use native.Mathlib.Omega.{arith}
 use Rattle.buckets.proofs.Chains.{from_below}
 use Rattle.buckets.proofs.Framing.{first_out, later_out}
-use borrow.Author.Rules.{rules}
 use Rattle.buckets.proofs.drop.Goals as goal
 
 pub cell-after-requires : goal.cell-after-requires

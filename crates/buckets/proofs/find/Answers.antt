@@ -1,11 +1,9 @@
 -- `buckets::find` meets its contract.
-use mathlib.Core.Path.{◌≡◌, ap, ◌∙◌}
-use Prim.Native.Nat.{ℕ, ◌≤◌}
+use mathlib.Core.Path.{ap, ◌∙◌}
+use Prim.Native.Nat.{ℕ}
 use native.Mathlib.Omega.{arith}
 use lib.ListN.{length}
-use Rattle.rows.specs.Rows.{chains}
-use Rattle.buckets.specs.Chains.{nth, chain_from, Ends}
-use Rattle.buckets.specs.Finding.{seek, found}
+use Rattle.buckets.specs.Finding.{found}
 use Rattle.buckets.proofs.Chains.{moved, headed}
 use Rattle.buckets.proofs.Walks.{seek_here, seek_more, seek_none}
 use Rattle.buckets.proofs.find.Goals as goal

@@ -1,13 +1,10 @@
 -- `buckets::find` meets its contract.
-use mathlib.Core.Path.{◌≡◌, ap, ◌∙◌}
-use Prim.Native.Nat.{ℕ, ◌≤◌}
-use native.Mathlib.Omega.{arith}
+use mathlib.Core.Path.{◌≡◌}
+use Prim.Native.Nat.{◌≤◌}
 use lib.ListN.{length}
 use Rattle.rows.specs.Rows.{chains}
 use Rattle.buckets.specs.Chains.{nth, chain_from, Ends}
 use Rattle.buckets.specs.Finding.{seek, found}
-use Rattle.buckets.proofs.Chains.{moved, headed}
-use Rattle.buckets.proofs.Walks.{seek_here, seek_more, seek_none}
 use Rattle.buckets.proofs.find.Given as goal
 
 abbrev pub invariant-loop-n : goal.invariant-loop-n

@@ -1,16 +1,11 @@
 -- `calls::close_range` meets its contract.
-use mathlib.Core.Path.{◌≡◌, refl, ap, ap₂, ◌∙◌}
+use mathlib.Core.Path.{ap}
 use Rattle.ranges.specs.declared.Close.{Close}
 use Rattle.ranges.specs.Tickets.{with_tickets}
 use Rattle.ranges.proofs.CloseLaw.{close_ready, close_meets}
 use Rattle.lists.proofs.Answers.{passed}
 use Rattle.soundness.specs.Tested.{lent}
 use Rattle.calls.proofs.Entering.{refusing, making}
-use borrow.Author.Rules.{rules}
-use Rattle.calls.proofs.close_range.Reads as reads
-use Rattle.calls.proofs.close_range.Lts as lts
-use Rattle.ranges.proofs.close_range.Reads as close-range-reads
-use Rattle.soundness.proofs.sound.Reads as sound-reads
 use Rattle.calls.proofs.close_range.Goals as goal
 
 pub returns-then-not-sound : goal.returns-then-not-sound

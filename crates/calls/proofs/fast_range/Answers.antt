@@ -1,16 +1,10 @@
 -- `calls::fast_range` meets its contract.
-use mathlib.Core.Path.{◌≡◌, refl, ap, ap₂, ◌∙◌}
 use mir.Syntax.{w64}
 use mir.ValLaws.{to_z-of_z}
 use Rattle.ranges.proofs.FastLaw.{fast_ready, fast_meets}
 use Rattle.lists.proofs.Answers.{passed}
 use Rattle.soundness.specs.Tested.{lent}
 use Rattle.calls.proofs.Entering.{refusing, making}
-use borrow.Author.Rules.{rules}
-use Rattle.calls.proofs.fast_range.Reads as reads
-use Rattle.calls.proofs.fast_range.Lts as lts
-use Rattle.ranges.proofs.fast_range.Reads as fast-range-reads
-use Rattle.soundness.proofs.sound.Reads as sound-reads
 use Rattle.calls.proofs.fast_range.Goals as goal
 
 pub returns-then-not-sound : goal.returns-then-not-sound

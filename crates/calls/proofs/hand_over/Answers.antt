@@ -1,16 +1,10 @@
 -- `calls::hand_over` meets its contract.
-use mathlib.Core.Path.{◌≡◌, refl, ap, ◌∙◌}
 use native.Mathlib.Omega.{arith}
 use Rattle.tables.proofs.Telling.{sound_capacity}
 use Rattle.returns.proofs.HandLaw.{hand_ready, hand_meets}
 use Rattle.lists.proofs.Answers.{passed}
 use Rattle.soundness.specs.Tested.{lent}
 use Rattle.calls.proofs.Entering.{refusing, making}
-use borrow.Author.Rules.{rules}
-use Rattle.calls.proofs.hand_over.Reads as reads
-use Rattle.calls.proofs.hand_over.Lts as lts
-use Rattle.returns.proofs.hand_over.Reads as hand-over-reads
-use Rattle.soundness.proofs.sound.Reads as sound-reads
 use Rattle.calls.proofs.hand_over.Goals as goal
 
 pub returns-then-not-sound : goal.returns-then-not-sound

@@ -1,16 +1,10 @@
 -- `calls::insert` meets its contract.
-use mathlib.Core.Path.{◌≡◌, refl, ap, ◌∙◌}
 use mir.Syntax.{w64}
 use mir.ValLaws.{to_z-of_z}
 use Rattle.changes.proofs.InsertLaw.{insert_ready, insert_cells, insert_meets}
 use Rattle.lists.proofs.Answers.{passed}
 use Rattle.soundness.specs.Tested.{lent}
 use Rattle.calls.proofs.Entering.{refusing, making}
-use borrow.Author.Rules.{rules}
-use Rattle.calls.proofs.insert.Reads as reads
-use Rattle.calls.proofs.insert.Lts as lts
-use Rattle.changes.proofs.insert.Reads as insert-reads
-use Rattle.soundness.proofs.sound.Reads as sound-reads
 use Rattle.calls.proofs.insert.Goals as goal
 
 pub returns-then-not-sound : goal.returns-then-not-sound

@@ -1,17 +1,11 @@
 -- `calls::lookup` meets its contract.
-use mathlib.Core.Path.{◌≡◌, refl, ap, ◌∙◌}
+use mathlib.Core.Path.{refl, ◌∙◌}
 use mir.Syntax.{w64}
 use mir.ValLaws.{to_z-of_z}
-use Rattle.sizes.specs.Rank.{rank_of}
 use Rattle.finds.proofs.LookupLaw.{lookup_ready, lookup_meets}
 use Rattle.lists.proofs.Answers.{passed}
 use Rattle.soundness.specs.Tested.{lent}
 use Rattle.calls.proofs.Entering.{refusing, making}
-use borrow.Author.Rules.{rules}
-use Rattle.calls.proofs.lookup.Reads as reads
-use Rattle.calls.proofs.lookup.Lts as lts
-use Rattle.finds.proofs.lookup.Reads as lookup-reads
-use Rattle.soundness.proofs.sound.Reads as sound-reads
 use Rattle.calls.proofs.lookup.Goals as goal
 
 pub returns-then-not-sound : goal.returns-then-not-sound

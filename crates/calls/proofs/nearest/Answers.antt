@@ -1,5 +1,5 @@
 -- `calls::nearest` meets its contract.
-use mathlib.Core.Path.{◌≡◌, refl, ap, ◌∙◌}
+use mathlib.Core.Path.{refl, ◌∙◌}
 use mir.Syntax.{w64}
 use mir.ValLaws.{to_z-of_z}
 use Rattle.finds.proofs.NearLaw.{near_ready}
@@ -7,11 +7,6 @@ use Rattle.finds.proofs.NearestLaw.{nearest_meets}
 use Rattle.lists.proofs.Answers.{passed}
 use Rattle.soundness.specs.Tested.{lent}
 use Rattle.calls.proofs.Entering.{refusing, making}
-use borrow.Author.Rules.{rules}
-use Rattle.calls.proofs.nearest.Reads as reads
-use Rattle.calls.proofs.nearest.Lts as lts
-use Rattle.finds.proofs.nearest.Reads as nearest-reads
-use Rattle.soundness.proofs.sound.Reads as sound-reads
 use Rattle.calls.proofs.nearest.Goals as goal
 
 pub returns-then-not-sound : goal.returns-then-not-sound

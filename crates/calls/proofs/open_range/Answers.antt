@@ -1,5 +1,5 @@
 -- `calls::open_range` meets its contract.
-use mathlib.Core.Path.{◌≡◌, refl, ap, ap₂, ◌∙◌}
+use mathlib.Core.Path.{ap}
 use mir.Syntax.{w64}
 use mir.ValLaws.{to_z-of_z}
 use Rattle.ranges.specs.declared.Open.{Open}
@@ -8,11 +8,6 @@ use Rattle.ranges.proofs.OpenLaw.{open_ready, open_meets}
 use Rattle.lists.proofs.Answers.{passed}
 use Rattle.soundness.specs.Tested.{lent}
 use Rattle.calls.proofs.Entering.{refusing, making}
-use borrow.Author.Rules.{rules}
-use Rattle.calls.proofs.open_range.Reads as reads
-use Rattle.calls.proofs.open_range.Lts as lts
-use Rattle.ranges.proofs.open_range.Reads as open-range-reads
-use Rattle.soundness.proofs.sound.Reads as sound-reads
 use Rattle.calls.proofs.open_range.Goals as goal
 
 pub returns-then-not-sound : goal.returns-then-not-sound

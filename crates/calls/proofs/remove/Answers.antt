@@ -1,16 +1,10 @@
 -- `calls::remove` meets its contract.
-use mathlib.Core.Path.{◌≡◌, refl, ap, ◌∙◌}
 use mir.Syntax.{w64}
 use mir.ValLaws.{to_z-of_z}
 use Rattle.changes.proofs.RemoveLaw.{remove_ready, remove_cells, remove_meets}
 use Rattle.lists.proofs.Answers.{passed}
 use Rattle.soundness.specs.Tested.{lent}
 use Rattle.calls.proofs.Entering.{refusing, making}
-use borrow.Author.Rules.{rules}
-use Rattle.calls.proofs.remove.Reads as reads
-use Rattle.calls.proofs.remove.Lts as lts
-use Rattle.changes.proofs.remove.Reads as remove-reads
-use Rattle.soundness.proofs.sound.Reads as sound-reads
 use Rattle.calls.proofs.remove.Goals as goal
 
 pub returns-then-not-sound : goal.returns-then-not-sound

@@ -1,16 +1,10 @@
 -- `calls::step_range` meets its contract.
-use mathlib.Core.Path.{◌≡◌, refl, ap, ap₂, ◌∙◌}
+use mathlib.Core.Path.{ap}
 use Rattle.ranges.specs.declared.Step.{Step}
-use Rattle.calls.specs.Entries.{with}
 use Rattle.ranges.proofs.StepLaw.{step_ready, step_meets}
 use Rattle.lists.proofs.Answers.{passed}
 use Rattle.soundness.specs.Tested.{lent}
 use Rattle.calls.proofs.Entering.{refusing, making}
-use borrow.Author.Rules.{rules}
-use Rattle.calls.proofs.step_range.Reads as reads
-use Rattle.calls.proofs.step_range.Lts as lts
-use Rattle.ranges.proofs.step_range.Reads as step-range-reads
-use Rattle.soundness.proofs.sound.Reads as sound-reads
 use Rattle.calls.proofs.step_range.Goals as goal
 
 pub returns-then-not-sound : goal.returns-then-not-sound

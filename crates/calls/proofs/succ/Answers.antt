@@ -1,10 +1,6 @@
 -- `calls::succ` meets its contract.
 use mir.Syntax.{w64}
 use mir.ValLaws.{to_z-of_z}
-use borrow.Author.Rules.{rules}
-use Rattle.calls.proofs.succ.Reads as reads
-use Rattle.calls.proofs.succ.Lts as lts
-use Rattle.calls.proofs.nearest.Reads as nearest-reads
 use Rattle.calls.proofs.succ.Goals as goal
 
 pub returns : goal.returns

@@ -1,16 +1,10 @@
 -- `calls::sweep` meets its contract.
-use mathlib.Core.Path.{◌≡◌, refl, ap, ◌∙◌}
 use native.Mathlib.Omega.{arith}
 use Rattle.tables.proofs.Telling.{sound_capacity}
 use Rattle.returns.proofs.SweepLaw.{sweep_ready, sweep_meets}
 use Rattle.lists.proofs.Answers.{passed}
 use Rattle.soundness.specs.Tested.{lent}
 use Rattle.calls.proofs.Entering.{refusing, making}
-use borrow.Author.Rules.{rules}
-use Rattle.calls.proofs.sweep.Reads as reads
-use Rattle.calls.proofs.sweep.Lts as lts
-use Rattle.returns.proofs.sweep_one.Reads as sweep-one-reads
-use Rattle.soundness.proofs.sound.Reads as sound-reads
 use Rattle.calls.proofs.sweep.Goals as goal
 
 pub returns-then-not-sound : goal.returns-then-not-sound

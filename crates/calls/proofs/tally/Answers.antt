@@ -1,16 +1,11 @@
 -- `calls::tally` meets its contract.
-use mathlib.Core.Path.{◌≡◌, refl, ap, ◌∙◌}
+use mathlib.Core.Path.{refl}
 use native.Mathlib.Omega.{arith}
 use Rattle.tables.proofs.Telling.{sound_capacity}
 use Rattle.finds.proofs.TallyLaw.{tally_ready, tally_meets}
 use Rattle.lists.proofs.Answers.{passed}
 use Rattle.soundness.specs.Tested.{lent}
 use Rattle.calls.proofs.Entering.{refusing, making}
-use borrow.Author.Rules.{rules}
-use Rattle.calls.proofs.tally.Reads as reads
-use Rattle.calls.proofs.tally.Lts as lts
-use Rattle.finds.proofs.tally.Reads as tally-reads
-use Rattle.soundness.proofs.sound.Reads as sound-reads
 use Rattle.calls.proofs.tally.Goals as goal
 
 pub returns-then-not-sound : goal.returns-then-not-sound

@@ -1,10 +1,7 @@
 -- `changes::height_of` meets its contract.
-use borrow.Author.Rules.{rules}
 use mathlib.Core.Path.{refl}
 use native.Mathlib.Omega.{arith}
 use Rattle.changes.proofs.Heights.{height_counted, height_full}
-use Rattle.changes.proofs.height_of.Reads as reads
-use Rattle.changes.proofs.height_of.Lts as lts
 use Rattle.changes.proofs.height_of.Goals as goal
 
 pub returns-then-ones-levels : goal.returns-then-ones-levels

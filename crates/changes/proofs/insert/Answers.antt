@@ -6,7 +6,6 @@ use mir.ValLaws.{to_z-of_z}
 use Rattle.model.specs.declared.Inserted.{Inserted}
 use Rattle.tables.specs.Tables.{node}
 use Rattle.changes.proofs.Cases.{insert_few, insert_sized, insert_linkable, insert_at, spare_is, insert_present, insert_full, insert_takes, rank_is, find_is}
-use borrow.Author.Rules.{rules}
 use Rattle.changes.proofs.insert.Goals as goal
 
 pub overflow_cast-cap : goal.overflow_cast-cap

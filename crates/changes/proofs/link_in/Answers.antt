@@ -1,7 +1,6 @@
 -- `changes::link_in` meets its contract: what each step requires is told of the rows that the steps before it left.
 use Rattle.changes.specs.Insert.{stitched_in, linked_in}
 use Rattle.changes.proofs.Linking.{link_node, link_stitchable, link_joinable, link_sized, link_room}
-use borrow.Author.Rules.{rules}
 use Rattle.changes.proofs.link_in.Goals as goal
 
 pub stitch_in-requires : goal.stitch_in-requires

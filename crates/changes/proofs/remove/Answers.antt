@@ -4,7 +4,6 @@ use native.Mathlib.Omega.{arith}
 use Rattle.changes.specs.Remove.{taken_out}
 use Rattle.changes.proofs.Leaving.{take_reaches, take_row, take_sized, take_some}
 use Rattle.changes.proofs.Cases.{remove_finds, remove_lacks, remove_holds, rank_is, find_is}
-use borrow.Author.Rules.{rules}
 use Rattle.changes.proofs.remove.Goals as goal
 
 pub drop-requires : goal.drop-requires

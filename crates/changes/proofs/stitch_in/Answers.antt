@@ -2,7 +2,6 @@
 use mathlib.Core.Path.{◌∙◌}
 use Rattle.changes.specs.Insert.{stitched_in}
 use Rattle.changes.proofs.Framing.{stitchable_same}
-use borrow.Author.Rules.{rules}
 use Rattle.changes.proofs.stitch_in.Goals as goal
 
 pub stitch-requires : goal.stitch-requires

@@ -4,7 +4,6 @@ use mir.Syntax.{w64}
 use mir.ValLaws.{to_z-of_z}
 use Rattle.sizes.specs.Rank.{rank_of}
 use Rattle.finds.proofs.LookupLaw.{value_known, value_found, value_lost}
-use borrow.Author.Rules.{rules}
 use Rattle.finds.proofs.lookup.Goals as goal
 
 pub bounds-values-i : goal.bounds-values-i

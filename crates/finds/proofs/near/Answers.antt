@@ -3,7 +3,6 @@ use mathlib.Core.Path.{sym, ap, ◌∙◌}
 use native.Mathlib.Omega.{arith}
 use Rattle.levels.specs.Nearest.{nearest_of}
 use Rattle.finds.proofs.Nearing.{held, unheld, near_here, near_beside, walk_beside, near_after, near_before, walk_after, walk_before}
-use borrow.Author.Rules.{rules}
 use Rattle.finds.proofs.near.Goals as goal
 
 pub returns-then-at : goal.returns-then-at

@@ -4,7 +4,6 @@ use mir.Syntax.{w64}
 use mir.ValLaws.{to_z-of_z}
 use Rattle.sizes.specs.Rank.{rank_of}
 use Rattle.finds.proofs.NearestLaw.{key_found, key_none}
-use borrow.Author.Rules.{rules}
 use Rattle.finds.proofs.nearest.Goals as goal
 
 pub returns-then-i-keys : goal.returns-then-i-keys

@@ -1,5 +1,4 @@
 -- `finds::tally` meets its contract.
-use borrow.Author.Rules.{rules}
 use Rattle.finds.proofs.tally.Goals as goal
 
 pub returns : goal.returns

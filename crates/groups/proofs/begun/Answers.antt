@@ -1,11 +1,9 @@
 -- `groups::begun` meets its contract: the loop of `read` without the sum. The measure is what is left of the bytes.
-use Prim.Native.Nat.{◌+◌, ◌-◌, ◌^◌}
-use mathlib.Core.Path.{◌≡◌, sym, ap, ◌∙◌}
+use Prim.Native.Nat.{◌^◌}
+use mathlib.Core.Path.{sym, ap, ◌∙◌}
 use native.Mathlib.Omega.{arith}
-use native.Mathlib.Numerals.{add-one}
-use lib.ListN.{length, drop, take, get_or, length-drop}
+use lib.ListN.{drop, take, get_or, length-drop}
 use lib.Seq.{get_or-drop}
-use borrow.Author.Rules.{rules}
 use Rattle.lists.proofs.Answers.{no, yes! }
 use Rattle.groups.specs.Groups.{worth}
 use Rattle.groups.proofs.Scanning as scan

@@ -1,12 +1,7 @@
 -- `groups::begun` meets its contract: the loop of `read` without the sum. The measure is what is left of the bytes.
 use Prim.Native.Nat.{◌+◌, ◌-◌, ◌^◌}
-use mathlib.Core.Path.{◌≡◌, sym, ap, ◌∙◌}
-use native.Mathlib.Omega.{arith}
-use native.Mathlib.Numerals.{add-one}
-use lib.ListN.{length, drop, take, get_or, length-drop}
-use lib.Seq.{get_or-drop}
-use borrow.Author.Rules.{rules}
-use Rattle.lists.proofs.Answers.{no, yes! }
+use mathlib.Core.Path.{◌≡◌}
+use lib.ListN.{length, drop, take}
 use Rattle.groups.specs.Groups.{worth}
 use Rattle.groups.proofs.Scanning as scan
 use Rattle.groups.proofs.begun.Given as goal

@@ -1,10 +1,5 @@
 -- `groups::length_of` meets its contract. The invariant: the bytes counted, with those of what is left, are one more than the number's. The measure is what is left.
-use Prim.Native.Nat.{◌+◌, ◌^◌, ◌<◌}
-use mathlib.Core.Path.{◌≡◌}
 use native.Mathlib.Omega.{arith}
-use lib.ListN.{length}
-use borrow.Author.Rules.{rules}
-use Rattle.groups.specs.Groups.{groups_of}
 use Rattle.groups.proofs.Grouping.{groups_short, length_low, length_step}
 use Rattle.groups.proofs.length_of.Goals as goal
 

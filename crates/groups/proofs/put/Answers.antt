@@ -1,11 +1,8 @@
 -- `groups::put` meets its contract. The invariant: storing the bytes of what is left gives the buffer that is asked for. The measure is what is left.
 use Prim.Native.Nat.{◌+◌, ◌%◌}
-use mathlib.Core.Path.{◌≡◌, refl, sym, ◌∙◌}
+use mathlib.Core.Path.{refl, sym, ◌∙◌}
 use native.Mathlib.Omega.{arith}
-use lib.ListN.{length, length-set}
-use lib.Seq.{sets}
-use borrow.Author.Rules.{rules}
-use Rattle.groups.specs.Groups.{groups_of}
+use lib.ListN.{length-set}
 use Rattle.groups.proofs.Grouping.{groups_some, length_low, length_step, sets_low, sets_step}
 use Rattle.groups.proofs.put.Goals as goal
 
@@ -21,10 +18,10 @@ overflow_add-place c = omega (arith, groups_some c.loop-left.left)
 pub loop-left-preserved : goal.loop-left-preserved
 loop-left-preserved c =
     let l = c.loop-left in (
-  omega (arith, length_step l.left c.loop-left-test.true),
-  length-set l.buffer l.place (l.left % 128 + 128) ∙ l.invariant.1,
-  sym (sets_step l.buffer l.place l.left c.loop-left-test.true) ∙ l.invariant.2,
-)
+      omega (arith, length_step l.left c.loop-left-test.true),
+      length-set l.buffer l.place (l.left % 128 + 128) ∙ l.invariant.1,
+      sym (sets_step l.buffer l.place l.left c.loop-left-test.true) ∙ l.invariant.2,
+    )
 
 pub bounds-buffer-place-2 : goal.bounds-buffer-place-2
 bounds-buffer-place-2 c = omega (arith, groups_some c.loop-left.left)
@@ -38,6 +35,6 @@ shape_of-buffer c = simp length-set c.loop-left.invariant.1
 pub returns : goal.returns
 returns c =
     let l = c.loop-left in (
-  omega (arith, length_low l.left c.loop-left-test.false),
-  sym (sets_low l.buffer l.place l.left c.loop-left-test.false) ∙ l.invariant.2,
-)
+      omega (arith, length_low l.left c.loop-left-test.false),
+      sym (sets_low l.buffer l.place l.left c.loop-left-test.false) ∙ l.invariant.2,
+    )

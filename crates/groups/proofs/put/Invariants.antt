@@ -1,12 +1,9 @@
 -- `groups::put` meets its contract. The invariant: storing the bytes of what is left gives the buffer that is asked for. The measure is what is left.
-use Prim.Native.Nat.{◌+◌, ◌%◌}
-use mathlib.Core.Path.{◌≡◌, refl, sym, ◌∙◌}
-use native.Mathlib.Omega.{arith}
-use lib.ListN.{length, length-set}
+use Prim.Native.Nat.{◌+◌}
+use mathlib.Core.Path.{◌≡◌}
+use lib.ListN.{length}
 use lib.Seq.{sets}
-use borrow.Author.Rules.{rules}
 use Rattle.groups.specs.Groups.{groups_of}
-use Rattle.groups.proofs.Grouping.{groups_some, length_low, length_step, sets_low, sets_step}
 use Rattle.groups.proofs.put.Given as goal
 
 abbrev pub invariant-loop-left : goal.invariant-loop-left

@@ -1,17 +1,11 @@
 -- `groups::read` meets its contract.
-use borrow.Author.Rules.{rules}
 use Prim.Native.Nat.{◌+◌}
-use mathlib.Core.Path.{◌≡◌, refl}
+use mathlib.Core.Path.{refl}
 use mathlib.Core.Logic.{inr}
 use native.Mathlib.Omega.{arith}
 use lib.ListN.{drop, length-drop}
 use Rattle.groups.proofs.Scanning as scan
 use Rattle.groups.proofs.Joining.{Byte, byte_in, met, first_met, led_one, led_two, led_three}
-use Rattle.groups.proofs.read.Reads as reads
-use Rattle.groups.proofs.read.Lts as lts
-use Rattle.groups.proofs.read_each.Reads as read-each-reads
-use Rattle.groups.proofs.read_long.Reads as read-long-reads
-use Rattle.groups.proofs.wide.Reads as wide-reads
 use Rattle.groups.proofs.read.Goals as goal
 use Rattle.groups.proofs.read.Goals.{After-wide-b0, After-wide-b1, After-wide-b2}
 

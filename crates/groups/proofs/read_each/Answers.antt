@@ -1,12 +1,10 @@
 -- `groups::read_each` meets its contract. The loop's invariant: the bytes behind have their high bits set (`Going`). The measure is what is left of the bytes.
-use Prim.Native.Nat.{◌+◌, ◌-◌, ◌*◌, ◌^◌, ◌<◌}
-use mathlib.Core.Path.{◌≡◌, sym, ap, ◌∙◌}
-use mathlib.Core.Logic.{inr, ⊎_elim}
+use Prim.Native.Nat.{◌+◌, ◌*◌, ◌^◌, ◌<◌}
+use mathlib.Core.Path.{sym, ap, ◌∙◌}
+use mathlib.Core.Logic.{inr}
 use native.Mathlib.Omega.{arith}
-use lib.ListN.{length, drop, get_or, length-drop}
+use lib.ListN.{drop, get_or, length-drop}
 use lib.Seq.{get_or-drop}
-use borrow.Author.Rules.{rules}
-use borrow.Author.Tests.{ltb-true, ltb-false}
 use Rattle.groups.proofs.Scanning as scan
 use Rattle.groups.proofs.read_each.Goals as goal
 use Rattle.groups.proofs.read_each.Goals.{After-wide-byte, Joined-else-count-eq9, else-count-eq9-via-then-count-eq9+else-byte-gt1, else-count-eq9-via-else-count-eq9}
@@ -29,9 +27,9 @@ small : (c : Joined-else-count-eq9)
     → scan.Met (drop c.args.at c.args.bytes.now) c.loop-place.sum c.loop-place.power c.loop-place.count c.wide-byte.result
     → c.loop-place.sum + c.wide-byte.result * c.loop-place.power < 2 ^ 64
 small c h = elim c.else-count-eq9.branch [
-    else-count-eq9-via-then-count-eq9+else-byte-gt1 w ↦ scan.tenth_fits h w.if-count-eq9.true w.if-byte-gt1.false
-    | else-count-eq9-via-else-count-eq9 w ↦ scan.early_fits h w.if-count-eq9.false c.if-byte-lt128.true
-    ]
+  | else-count-eq9-via-then-count-eq9+else-byte-gt1 w ↦ scan.tenth_fits h w.if-count-eq9.true w.if-byte-gt1.false
+  | else-count-eq9-via-else-count-eq9 w ↦ scan.early_fits h w.if-count-eq9.false c.if-byte-lt128.true
+]
 
 pub loop-place-init : goal.loop-place-init
 loop-place-init c = (omega arith, scan.going_none _)

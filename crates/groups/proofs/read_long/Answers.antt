@@ -1,16 +1,9 @@
 -- `groups::read_long` meets its contract.
-use borrow.Author.Rules.{rules}
 use Prim.Native.Nat.{◌+◌}
 use mathlib.Core.Path.{refl}
 use native.Mathlib.Omega.{arith}
 use lib.ListN.{drop, length-drop}
-use borrow.Author.Tests.{ltb-true, leb-true}
 use Rattle.groups.proofs.Joining.{byte_in, Long, Highs, first_small, eight, long_of, long_none, top_fits}
-use Rattle.groups.proofs.read_long.Reads as reads
-use Rattle.groups.proofs.read_long.Lts as lts
-use Rattle.groups.proofs.join_groups.Reads as join-groups-reads
-use Rattle.groups.proofs.read_each.Reads as read-each-reads
-use Rattle.groups.proofs.wide.Reads as wide-reads
 use Rattle.groups.proofs.read_long.Goals as goal
 use Rattle.groups.proofs.read_long.Goals.{After-wide-b9, Then-b8-gt0}
 

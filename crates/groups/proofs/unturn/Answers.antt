@@ -1,6 +1,5 @@
 -- `groups::unturn` meets its contract.
 use native.Mathlib.Omega.{arith}
-use borrow.Author.Rules.{rules}
 use Rattle.groups.proofs.Signing.{unturn_even, unturn_odd}
 use Rattle.groups.proofs.unturn.Goals as goal
 

@@ -4,7 +4,6 @@ use native.Mathlib.Omega.{arith}
 use native.Mathlib.Nat.{zero-add}
 use Rattle.groups.specs.Groups.{groups_of}
 use Rattle.groups.proofs.Writing.{writes_short, writes_whole}
-use borrow.Author.Rules.{rules}
 use Rattle.groups.proofs.write.Goals as goal
 
 pub returns-then-buffer-length_of : goal.returns-then-buffer-length_of

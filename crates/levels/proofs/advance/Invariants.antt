@@ -1,9 +1,7 @@
 -- `levels::advance` meets its contract. The invariant: m is the last node of each level below l.
 use Prim.Native.Nat.{◌≤◌, ◌-◌}
-use mathlib.Core.Path.{◌≡◌, refl, ap}
-use native.Mathlib.Omega.{arith}
-use native.Mathlib.Numerals.{add-one}
-use lib.ListN.{length, set, length-set}
+use mathlib.Core.Path.{◌≡◌}
+use lib.ListN.{length}
 use Rattle.levels.specs.Test.{advanced}
 use Rattle.levels.proofs.advance.Given as goal
 

@@ -1,8 +1,6 @@
 -- `levels::clear_levels` meets its contract. The invariant: the rows are those at entry with the sentinels linked at each level below l.
 use Prim.Native.Nat.{◌≤◌, ◌-◌}
-use mathlib.Core.Path.{◌≡◌, refl, ◌∙◌}
-use native.Mathlib.Omega.{arith}
-use native.Mathlib.Numerals.{add-one}
+use mathlib.Core.Path.{◌≡◌}
 use lib.ListN.{length}
 use Rattle.levels.specs.Stitch.{cleared}
 use Rattle.levels.proofs.clear_levels.Given as goal

@@ -1,10 +1,7 @@
 -- `levels::follows` meets its contract. The invariant: the levels below l passed the test.
-use Prim.Native.Nat.{◌≤◌, ◌-◌}
 use mathlib.Core.Path.{sym, ◌∙◌}
 use native.Mathlib.Omega.{arith}
-use Rattle.lists.specs.Tests.{Each}
 use Rattle.lists.proofs.Answers.{none_yet, one_more, all_no, all_yes}
-use Rattle.levels.specs.Test.{Follows}
 use Rattle.levels.proofs.follows.Goals as goal
 
 pub loop-l-init : goal.loop-l-init

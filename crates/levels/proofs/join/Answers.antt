@@ -1,6 +1,5 @@
 -- `levels::join` meets its contract.
 use Rattle.levels.specs.Stitch.{joined}
-use borrow.Author.Rules.{rules}
 use Rattle.levels.proofs.join.Goals as goal
 
 pub returns : goal.returns

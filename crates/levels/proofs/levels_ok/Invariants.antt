@@ -1,11 +1,5 @@
 -- `levels::levels_ok` meets its contract. The invariant: the levels are linked exactly when what is left from m on is so. The measure is how many nodes may still come.
-use Prim.Native.Nat.{◌≤◌, ◌<◌, ◌-◌}
-use mathlib.Core.Path.{◌≡◌, refl, ◌∙◌}
-use native.Mathlib.Omega.{arith}
-use lib.ListN.{get_or-replicate}
-use Rattle.rows.specs.Rows.{heights}
-use Rattle.lists.proofs.Answers.{no, failed, passed, over}
-use Rattle.levels.proofs.Testing.{Passing, passing_start, passing_many, passing_height, passing_links, passing_on, passing_follow, passing_end, passing_tail}
+use Rattle.levels.proofs.Testing.{Passing}
 use Rattle.levels.proofs.levels_ok.Given as goal
 
 abbrev pub invariant-loop-m : goal.invariant-loop-m

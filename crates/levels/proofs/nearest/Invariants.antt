@@ -1,10 +1,8 @@
 -- `levels::nearest` meets its contract. The invariant: the walk stands on the level, and the answer from there is that from the start.
-use mathlib.Core.Path.{◌≡◌, refl, sym, ◌∙◌}
-use native.Mathlib.Omega.{arith}
+use mathlib.Core.Path.{◌≡◌}
 use lib.ListN.{length}
 use Rattle.levels.specs.Levels.{onward}
 use Rattle.levels.specs.Nearest.{nearest_of, Walkable}
-use Rattle.levels.proofs.Nearing.{walk_less, walk_on, nearest_here, nearest_on, nearest_end}
 use Rattle.levels.proofs.nearest.Given as goal
 
 abbrev pub invariant-loop-m : goal.invariant-loop-m

@@ -1,7 +1,7 @@
 -- `levels::search` meets its contract. Both loops have the same invariant, `Going`: the search stands at the end of a part of the order whose
 use Prim.Native.Nat.{◌≤◌, ◌<◌}
 use mathlib.Core.Path.{refl}
-use mathlib.Core.Logic.{◌⊎◌, ⊎_elim, inl, inr}
+use mathlib.Core.Logic.{◌⊎◌, inl, inr}
 use native.Mathlib.Omega.{arith}
 use lib.ListN.{get_or, get_or-replicate}
 use Rattle.levels.specs.Stitch.{pair}

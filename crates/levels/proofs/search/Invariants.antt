@@ -1,11 +1,5 @@
 -- `levels::search` meets its contract. Both loops have the same invariant, `Going`: the search stands at the end of a part of the order whose
-use Prim.Native.Nat.{◌≤◌, ◌<◌}
-use mathlib.Core.Path.{refl}
-use mathlib.Core.Logic.{◌⊎◌, ⊎_elim, inl, inr}
-use native.Mathlib.Omega.{arith}
-use lib.ListN.{get_or, get_or-replicate}
-use Rattle.levels.specs.Stitch.{pair}
-use Rattle.levels.proofs.Searching.{Going, ahead, going_start, going_step, going_down, searched_all}
+use Rattle.levels.proofs.Searching.{Going, ahead}
 use Rattle.levels.proofs.search.Given as goal
 
 abbrev pub invariant-loop-at : goal.invariant-loop-at

@@ -1,9 +1,7 @@
 -- `levels::stitch` meets its contract. The invariant: the rows are those at entry with n linked in at each level below l.
-use Prim.Native.Nat.{◌≤◌, ◌-◌}
 use mathlib.Core.Path.{◌≡◌, refl, ◌∙◌}
 use native.Mathlib.Omega.{arith}
 use native.Mathlib.Numerals.{add-one}
-use lib.ListN.{length}
 use Rattle.levels.specs.Stitch.{stitched}
 use Rattle.levels.proofs.stitch.Goals as goal
 
@@ -34,13 +32,12 @@ loop-l-smaller c = omega arith
 
 pub loop-l-preserved : goal.loop-l-preserved
 unfolding stitched
-loop-l-preserved c =
-    (
-      omega arith,
-      c.join-in-loop-l.auto.rows ∙ c.join.auto.rows ∙ c.loop-l.invariant.1,
-      rw add-one (c.join-in-loop-l.ensures ∙ rw (c.join.ensures, c.loop-l.invariant.2)),
-      c.loop-l.invariant.3,
-    )
+loop-l-preserved c = (
+  omega arith,
+  c.join-in-loop-l.auto.rows ∙ c.join.auto.rows ∙ c.loop-l.invariant.1,
+  rw add-one (c.join-in-loop-l.ensures ∙ rw (c.join.ensures, c.loop-l.invariant.2)),
+  c.loop-l.invariant.3,
+)
 
 pub shape_of-rows : goal.shape_of-rows
 shape_of-rows c = omega arith

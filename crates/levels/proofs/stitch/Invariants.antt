@@ -1,8 +1,6 @@
 -- `levels::stitch` meets its contract. The invariant: the rows are those at entry with n linked in at each level below l.
 use Prim.Native.Nat.{◌≤◌, ◌-◌}
-use mathlib.Core.Path.{◌≡◌, refl, ◌∙◌}
-use native.Mathlib.Omega.{arith}
-use native.Mathlib.Numerals.{add-one}
+use mathlib.Core.Path.{◌≡◌}
 use lib.ListN.{length}
 use Rattle.levels.specs.Stitch.{stitched}
 use Rattle.levels.proofs.stitch.Given as goal

@@ -1,10 +1,9 @@
 -- `levels::unstitch` meets its contract. The invariant: the rows are those at entry with the neighbours of n linked at each level below l.
-use Prim.Native.Nat.{ℕ, ◌≤◌, ◌<◌, ◌-◌}
+use Prim.Native.Nat.{ℕ, ◌≤◌, ◌<◌}
 use mathlib.Core.Path.{◌≡◌, refl, ap, ◌∙◌}
 use native.Mathlib.Omega.{arith}
 use native.Mathlib.Numerals.{add-one}
 use mathlib.Core.List.{List}
-use lib.ListN.{length}
 use Rattle.rows.specs.Rows.{links}
 use Rattle.levels.specs.Stitch.{unstitched}
 use Rattle.levels.proofs.Joining.{unstitched_level}

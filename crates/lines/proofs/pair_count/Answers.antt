@@ -1,7 +1,5 @@
 -- `lines::pair_count` meets its contract.
-use mathlib.Core.Path.{◌≡◌, sym, ◌∙◌}
-use lib.IntN.{pos}
-use borrow.Author.Rules.{rules}
+use mathlib.Core.Path.{sym, ◌∙◌}
 use Rattle.lines.proofs.Telling.{code_natural, result_natural, count_natural, count_is, refused_pairs, no_pairs}
 use Rattle.lines.proofs.pair_count.Goals as goal
 

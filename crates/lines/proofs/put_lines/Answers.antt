@@ -1,13 +1,7 @@
 -- `lines::put_lines` meets its contract. The invariant: the lines of the calls passed so far, for every history that the cells and the pairs tell.
-use mathlib.Core.Path.{◌≡◌, refl, sym, ◌∙◌}
-use mathlib.Core.List.{List}
-use Prim.Native.Nat.{◌-◌}
+use mathlib.Core.Path.{refl, ◌∙◌}
 use native.Mathlib.Omega.{arith}
-use lib.ListN.{length}
-use borrow.Author.Rules.{rules}
-use Rattle.model.specs.Calls.{Call, Answer}
-use Rattle.lines.specs.Told.{ToldAll}
-use Rattle.lines.proofs.Sofar.{Sofar, sofar_none, code, answer, next_cells, next_celled, next_keys, next_values, next_told, next_room, next_number, sofar_next, sofar_ends}
+use Rattle.lines.proofs.Sofar.{sofar_none, code, answer, next_cells, next_celled, next_keys, next_values, next_told, next_room, next_number, sofar_next, sofar_ends}
 use Rattle.lines.proofs.put_lines.Goals as goal
 
 pub loop-from-init : goal.loop-from-init
@@ -80,8 +74,7 @@ pub loop-from-smaller : goal.loop-from-smaller
 loop-from-smaller c = let t = c.requires.0.told in let s = c.loop-from.invariant.0 _ t in let h = c.loop-from-test.true in let a = next_cells t s h in omega arith
 
 pub loop-from-preserved : goal.loop-from-preserved
-loop-from-preserved c =
-    (
+loop-from-preserved c = (
   λ hs t. (let s = c.loop-from.invariant.0 hs t in let h = c.loop-from-test.true in let e = (c.pair_count.ensures _ _ (next_celled t s h)) in sofar_next t s h e c.requires.1 (c.put_transaction-at.ensures _ _ (next_told t s h e))),
   c.put_transaction-at.auto.out ∙ c.loop-from.invariant.1,
 )

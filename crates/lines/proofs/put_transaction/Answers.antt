@@ -1,6 +1,5 @@
 -- `lines::put_transaction` meets its contract.
 use native.Mathlib.Omega.{arith}
-use borrow.Author.Rules.{rules}
 use Rattle.lines.proofs.Telling.{code_natural, result_natural, celled_five, few_shown}
 use Rattle.lines.proofs.Lining.{told_alike, told_line}
 use Rattle.lines.proofs.put_transaction.Goals as goal

@@ -2,7 +2,6 @@
 use mathlib.Core.Path.{sym}
 use native.Mathlib.Omega.{arith}
 use lib.Seq.{length-take-le}
-use borrow.Author.Rules.{rules}
 use Rattle.lines.proofs.Parting.{ran_within, ran_cells, ran_ready, ran_printed}
 use Rattle.lines.proofs.run_part.Goals as goal
 

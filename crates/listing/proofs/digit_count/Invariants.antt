@@ -1,10 +1,8 @@
 -- `listing::digit_count` meets its contract: the digits counted so far and those of what is left are all of them, and one.
 use mathlib.Core.Path.{◌≡◌}
 use Prim.Native.Nat.{◌+◌}
-use native.Mathlib.Omega.{arith}
 use lib.ListN.{length}
 use Rattle.listing.specs.Decimals.{digits}
-use Rattle.listing.proofs.Digits.{count_one, count_more, digits_some, natural_length}
 use Rattle.listing.proofs.digit_count.Given as goal
 
 abbrev pub invariant-loop-rest : goal.invariant-loop-rest

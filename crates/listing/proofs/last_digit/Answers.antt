@@ -1,6 +1,5 @@
 -- `listing::last_digit` meets its contract.
 use mathlib.Core.Path.{refl}
-use borrow.Author.Rules.{rules}
 use Rattle.listing.proofs.last_digit.Goals as goal
 
 pub returns : goal.returns

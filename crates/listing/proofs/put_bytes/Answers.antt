@@ -1,11 +1,8 @@
 -- `listing::put_bytes` meets its contract: the first i bytes of the word are put.
-use mathlib.Core.Path.{◌≡◌, refl}
-use Prim.Native.Nat.{◌+◌, ◌-◌, ◌≤◌}
+use mathlib.Core.Path.{refl}
 use native.Mathlib.Omega.{arith}
-use lib.ListN.{length, take, length-set}
+use lib.ListN.{length-set}
 use native.Mathlib.Nat.{add-zero}
-use borrow.Author.Rules.{rules}
-use Rattle.listing.specs.Puts.{Put}
 use Rattle.listing.proofs.Putting.{put_none_lem, put_next, put_whole}
 use Rattle.listing.proofs.put_bytes.Goals as goal
 

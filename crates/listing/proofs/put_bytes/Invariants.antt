@@ -1,12 +1,8 @@
 -- `listing::put_bytes` meets its contract: the first i bytes of the word are put.
-use mathlib.Core.Path.{◌≡◌, refl}
+use mathlib.Core.Path.{◌≡◌}
 use Prim.Native.Nat.{◌+◌, ◌-◌, ◌≤◌}
-use native.Mathlib.Omega.{arith}
-use lib.ListN.{length, take, length-set}
-use native.Mathlib.Nat.{add-zero}
-use borrow.Author.Rules.{rules}
+use lib.ListN.{length, take}
 use Rattle.listing.specs.Puts.{Put}
-use Rattle.listing.proofs.Putting.{put_none_lem, put_next, put_whole}
 use Rattle.listing.proofs.put_bytes.Given as goal
 
 abbrev pub invariant-loop-i : goal.invariant-loop-i

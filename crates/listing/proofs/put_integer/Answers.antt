@@ -4,7 +4,6 @@ use native.Mathlib.Omega.{arith}
 use lib.ListN.{length}
 use Rattle.lists.proofs.Signs.{neg, nonneg}
 use Rattle.listing.proofs.Putting.{integer_neg, integer_pos, put_negative}
-use borrow.Author.Rules.{rules}
 use Rattle.listing.proofs.put_integer.Goals as goal
 
 pub put_byte-next-requires : goal.put_byte-next-requires

@@ -1,6 +1,5 @@
 -- `listing::put_line` meets its contract.
 use native.Mathlib.Omega.{arith}
-use borrow.Author.Rules.{rules}
 use lib.ListN.{take}
 use Rattle.listing.specs.Lines.{paired}
 use Rattle.listing.proofs.Digits.{natural_length}

@@ -1,12 +1,7 @@
 -- `listing::put_natural` meets its contract: the digits left, written before those that stand, make the whole text.
-use mathlib.Core.Path.{◌≡◌, refl, ◌∙◌}
-use Prim.Native.Nat.{◌-◌, ◌≤◌}
+use mathlib.Core.Path.{refl, ◌∙◌}
 use native.Mathlib.Omega.{arith}
-use lib.ListN.{length, length-set}
-use borrow.Author.Rules.{rules}
-use Rattle.lists.specs.Buffers.{written}
-use Rattle.listing.specs.Decimals.{digits}
-use Rattle.listing.proofs.Digits.{last_digits}
+use lib.ListN.{length-set}
 use Rattle.listing.proofs.Filling.{fill_start, fill_next, fill_end}
 use Rattle.listing.proofs.put_natural.Goals as goal
 

@@ -1,13 +1,10 @@
 -- `listing::put_natural` meets its contract: the digits left, written before those that stand, make the whole text.
-use mathlib.Core.Path.{◌≡◌, refl, ◌∙◌}
+use mathlib.Core.Path.{◌≡◌}
 use Prim.Native.Nat.{◌-◌, ◌≤◌}
-use native.Mathlib.Omega.{arith}
-use lib.ListN.{length, length-set}
-use borrow.Author.Rules.{rules}
+use lib.ListN.{length}
 use Rattle.lists.specs.Buffers.{written}
 use Rattle.listing.specs.Decimals.{digits}
 use Rattle.listing.proofs.Digits.{last_digits}
-use Rattle.listing.proofs.Filling.{fill_start, fill_next, fill_end}
 use Rattle.listing.proofs.put_natural.Given as goal
 
 abbrev pub invariant-loop-i : goal.invariant-loop-i

@@ -1,6 +1,5 @@
 -- `listing::put_number_line` meets its contract.
 use native.Mathlib.Omega.{arith}
-use borrow.Author.Rules.{rules}
 use Rattle.listing.proofs.Digits.{natural_length}
 use Rattle.listing.proofs.Lining.{put_number_line_lem}
 use Rattle.listing.proofs.put_number_line.Goals as goal

@@ -1,11 +1,6 @@
 -- `listing::put_numbers` meets its contract: those before i are put.
 use mathlib.Core.Path.{◌≡◌, refl}
-use Prim.Native.Nat.{◌-◌, ◌≤◌}
 use native.Mathlib.Omega.{arith}
-use lib.ListN.{length, take}
-use borrow.Author.Rules.{rules}
-use Rattle.listing.specs.Lines.{spaced}
-use Rattle.listing.specs.Puts.{longest, Put}
 use Rattle.listing.proofs.Putting.{put_none_lem, put_number}
 use Rattle.listing.proofs.put_numbers.Goals as goal
 

@@ -1,12 +1,9 @@
 -- `listing::put_pairs` meets its contract: those before i are put.
-use mathlib.Core.Path.{◌≡◌, refl}
+use mathlib.Core.Path.{◌≡◌}
 use Prim.Native.Nat.{◌-◌, ◌*◌, ◌≤◌}
-use native.Mathlib.Omega.{arith}
 use lib.ListN.{length, take}
-use borrow.Author.Rules.{rules}
 use Rattle.listing.specs.Lines.{spaced, paired}
 use Rattle.listing.specs.Puts.{longest, Put}
-use Rattle.listing.proofs.Putting.{put_none_lem, put_pair}
 use Rattle.listing.proofs.put_pairs.Given as goal
 
 abbrev pub invariant-loop-i : goal.invariant-loop-i

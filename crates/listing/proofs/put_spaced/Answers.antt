@@ -4,7 +4,6 @@ use mir.Syntax.{w64}
 use mir.ValLaws.{to_z-of_z}
 use Rattle.listing.proofs.Digits.{integer_length}
 use Rattle.listing.proofs.Putting.{put_space}
-use borrow.Author.Rules.{rules}
 use Rattle.listing.proofs.put_spaced.Goals as goal
 
 pub put_integer-requires : goal.put_integer-requires

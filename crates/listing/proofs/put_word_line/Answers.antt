@@ -1,5 +1,4 @@
 -- `listing::put_word_line` meets its contract.
-use borrow.Author.Rules.{rules}
 use Rattle.listing.proofs.Lining.{put_word_line_lem}
 use Rattle.listing.proofs.put_word_line.Goals as goal
 

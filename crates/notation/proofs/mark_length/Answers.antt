@@ -1,7 +1,6 @@
 -- `notation::mark_length` meets its contract.
 use mathlib.Core.Path.{sym}
 use native.Mathlib.Omega.{arith}
-use borrow.Author.Rules.{rules}
 use lib.Seq.{length-take-le}
 use Rattle.notation.proofs.Telling.{mark_short, mark_there, mark_none}
 use Rattle.notation.proofs.mark_length.Goals as goal

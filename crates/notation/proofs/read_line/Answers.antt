@@ -1,5 +1,4 @@
 -- `notation::read_line` meets its contract.
-use borrow.Author.Rules.{rules}
 use mathlib.Core.Path.{sym, ap, ◌∙◌}
 use native.Mathlib.Omega.{arith}
 use Rattle.notation.specs.Inner.{operands_of}

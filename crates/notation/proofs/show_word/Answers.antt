@@ -1,10 +1,8 @@
 -- `notation::show_word` meets its contract.
 use mathlib.Core.Path.{sym}
 use native.Mathlib.Omega.{arith}
-use borrow.Author.Rules.{rules}
 use lib.Seq.{length-take-le}
 use Rattle.listing.proofs.Putting.{put_shown_lem}
-use Rattle.notation.specs.Showing.{shown}
 use Rattle.notation.proofs.show_word.Goals as goal
 
 pub put_shown-end-requires : goal.put_shown-end-requires

@@ -1,5 +1,4 @@
 -- `notation::write_text` meets its contract.
-use borrow.Author.Rules.{rules}
 use Rattle.groups.proofs.Writing.{writes_short}
 use Rattle.notation.proofs.Texting.{put_writes}
 use Rattle.notation.proofs.write_text.Goals as goal

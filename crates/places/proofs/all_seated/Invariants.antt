@@ -1,12 +1,8 @@
 -- `places::all_seated` meets its contract. The invariant: the seats passed are held so.
 use Prim.Native.Nat.{◌≤◌, ◌-◌}
-use native.Mathlib.Omega.{arith}
-use native.Mathlib.Nat.{lt_of_lt_of_le}
 use Rattle.lists.specs.Tests.{Each}
-use Rattle.lists.proofs.Answers.{failed, passed, none_yet, one_more, all_no, all_yes}
 use Rattle.rows.specs.Rows.{column, places, seats}
 use Rattle.places.specs.Places.{slot, Seated}
-use Rattle.places.proofs.Wraps.{slot_lt}
 use Rattle.places.proofs.all_seated.Given as goal
 
 abbrev pub invariant-loop-i : goal.invariant-loop-i

@@ -1,9 +1,7 @@
 -- `places::clear_places` meets its contract. The invariant: the rows so far are those of the definition.
-use Prim.Native.Nat.{◌≤◌, ◌-◌}
 use mathlib.Core.Path.{◌≡◌, refl, ◌∙◌}
 use native.Mathlib.Omega.{arith}
 use native.Mathlib.Numerals.{add-one}
-use lib.ListN.{length}
 use Rattle.places.specs.Stores.{stored}
 use Rattle.places.specs.Changes.{cleared_nodes, cleared}
 use Rattle.places.proofs.clear_places.Goals as goal
@@ -35,12 +33,11 @@ loop-i-smaller c = omega arith
 
 pub loop-i-preserved : goal.loop-i-preserved
 unfolding cleared_nodes stored
-loop-i-preserved c =
-    (
-      omega arith,
-      c.put-in-loop-i-2.auto.rows ∙ c.put-in-loop-i.auto.rows ∙ c.put.auto.rows ∙ c.loop-i.invariant.1,
-      rw add-one (c.put-in-loop-i-2.ensures ∙ rw (c.put-in-loop-i.ensures, c.put.ensures, c.loop-i.invariant.2)),
-    )
+loop-i-preserved c = (
+  omega arith,
+  c.put-in-loop-i-2.auto.rows ∙ c.put-in-loop-i.auto.rows ∙ c.put.auto.rows ∙ c.loop-i.invariant.1,
+  rw add-one (c.put-in-loop-i-2.ensures ∙ rw (c.put-in-loop-i.ensures, c.put.ensures, c.loop-i.invariant.2)),
+)
 
 pub put-requires-2 : goal.put-requires-2
 put-requires-2 c = omega arith

@@ -1,11 +1,8 @@
 -- `places::clear_places` meets its contract. The invariant: the rows so far are those of the definition.
 use Prim.Native.Nat.{◌≤◌, ◌-◌}
-use mathlib.Core.Path.{◌≡◌, refl, ◌∙◌}
-use native.Mathlib.Omega.{arith}
-use native.Mathlib.Numerals.{add-one}
+use mathlib.Core.Path.{◌≡◌}
 use lib.ListN.{length}
-use Rattle.places.specs.Stores.{stored}
-use Rattle.places.specs.Changes.{cleared_nodes, cleared}
+use Rattle.places.specs.Changes.{cleared_nodes}
 use Rattle.places.proofs.clear_places.Given as goal
 
 abbrev pub invariant-loop-i : goal.invariant-loop-i

@@ -1,10 +1,8 @@
 -- `places::count_in` meets its contract. The invariant: k of the nodes below n are in the place.
-use Prim.Native.Nat.{◌+◌, ◌≤◌, ◌-◌}
+use Prim.Native.Nat.{◌+◌}
 use mathlib.Core.Path.{◌≡◌, refl, sym, ap, ◌∙◌}
 use native.Mathlib.Omega.{arith}
-use lib.ListN.{length}
 use Rattle.rows.specs.Rows.{places}
-use Rattle.places.specs.Places.{nodes_in}
 use Rattle.places.proofs.Counting.{nodes_yes, nodes_no}
 use Rattle.places.proofs.count_in.Goals as goal
 

@@ -1,7 +1,6 @@
 -- `places::counted_ok` meets its contract.
 use mathlib.Core.Path.{sym, ◌∙◌}
 use borrow.Author.Tests.{eq-eqb, eqb-true}
-use borrow.Author.Rules.{rules}
 use Rattle.places.proofs.counted_ok.Goals as goal
 
 pub returns : goal.returns

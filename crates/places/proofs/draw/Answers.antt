@@ -1,7 +1,6 @@
 -- `places::draw` meets its contract: the top is the head of the list.
 use mathlib.Core.Path.{sym, ◌∙◌}
 use native.Mathlib.Omega.{arith}
-use borrow.Author.Rules.{rules}
 use Rattle.places.specs.Stores.{stored}
 use Rattle.places.specs.Changes.{drawn}
 use Rattle.places.proofs.Lists.{free_length, stacked_head}

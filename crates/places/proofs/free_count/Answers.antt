@@ -1,6 +1,5 @@
 -- `places::free_count` meets its contract: the list is as long as its count.
 use mathlib.Core.Path.{sym, ◌∙◌}
-use borrow.Author.Rules.{rules}
 use Rattle.places.proofs.Lists.{free_length}
 use Rattle.places.proofs.free_count.Goals as goal
 

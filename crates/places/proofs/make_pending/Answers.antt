@@ -1,5 +1,4 @@
 -- `places::make_pending` meets its contract.
-use borrow.Author.Rules.{rules}
 use Rattle.places.specs.Stores.{stored}
 use Rattle.places.specs.Changes.{marked}
 use Rattle.places.proofs.make_pending.Goals as goal

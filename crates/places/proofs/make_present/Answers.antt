@@ -1,5 +1,4 @@
 -- `places::make_present` meets its contract.
-use borrow.Author.Rules.{rules}
 use Rattle.places.specs.Stores.{stored}
 use Rattle.places.specs.Changes.{marked}
 use Rattle.places.proofs.make_present.Goals as goal

@@ -1,6 +1,5 @@
 -- `places::places_ok` meets its contract.
 use native.Mathlib.Omega.{arith}
-use borrow.Author.Rules.{rules}
 use Rattle.lists.proofs.Answers.{no, yes!, failed, passed}
 use Rattle.places.proofs.Seats.{as_ring, as_stack}
 use Rattle.places.proofs.places_ok.Goals as goal

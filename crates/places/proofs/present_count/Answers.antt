@@ -1,5 +1,4 @@
 -- `places::present_count` meets its contract.
-use borrow.Author.Rules.{rules}
 use Rattle.places.proofs.present_count.Goals as goal
 
 pub returns : goal.returns

@@ -1,6 +1,5 @@
 -- `places::release` meets its contract.
 use native.Mathlib.Omega.{arith}
-use borrow.Author.Rules.{rules}
 use Rattle.places.specs.Stores.{stored}
 use Rattle.places.specs.Changes.{released}
 use Rattle.places.proofs.Lists.{free_length}

@@ -1,7 +1,6 @@
 -- `places::retire` meets its contract.
 use Prim.Native.Nat.{◌<◌}
 use native.Mathlib.Omega.{arith}
-use borrow.Author.Rules.{rules}
 use Rattle.places.specs.Places.{ring_count}
 use Rattle.places.specs.Stores.{stored}
 use Rattle.places.specs.Changes.{retired}

@@ -1,7 +1,6 @@
 -- `places::seated` meets its contract.
 use mathlib.Core.Path.{sym, ◌∙◌}
 use native.Mathlib.Omega.{arith}
-use borrow.Author.Rules.{rules}
 use Rattle.lists.proofs.Answers.{no, yes! }
 use Rattle.places.proofs.seated.Goals as goal
 

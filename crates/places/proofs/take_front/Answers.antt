@@ -1,7 +1,6 @@
 -- `places::take_front` meets its contract: the front is the head of the list.
 use mathlib.Core.Path.{sym}
 use native.Mathlib.Omega.{arith}
-use borrow.Author.Rules.{rules}
 use Rattle.places.specs.Stores.{stored}
 use Rattle.places.specs.Changes.{taken}
 use Rattle.places.proofs.Lists.{ring_length, queued_head}

@@ -4,12 +4,6 @@ use Prim.Native.Nat.{◌-◌}
 use native.Mathlib.Omega.{arith}
 use Rattle.ranges.specs.Tickets.{index_of}
 use Rattle.ranges.proofs.CloseCases.{close_none, close_oldest, close_later}
-use borrow.Author.Rules.{rules}
-use Rattle.ranges.proofs.close_range.Reads as reads
-use Rattle.ranges.proofs.close_range.Lts as lts
-use Rattle.ranges.proofs.drop_ticket.Reads as drop-ticket-reads
-use Rattle.ranges.proofs.find_ticket.Reads as find-ticket-reads
-use Rattle.rows.proofs.wide.Reads as wide-reads
 use Rattle.ranges.proofs.close_range.Goals as goal
 
 pub returns-then-j-open : goal.returns-then-j-open

@@ -1,26 +1,15 @@
 -- `ranges::fast_range` meets its contract: one law for each return.
-use mathlib.Core.Path.{◌≡◌, sym, ap, ◌∙◌}
+use mathlib.Core.Path.{◌≡◌}
 use mathlib.Core.Bool.{true, false}
-use Prim.Native.Nat.{◌≤◌, ◌+◌}
 use native.Mathlib.Omega.{arith}
 use lib.ListN.{length}
 use mir.Syntax.{w64}
 use mir.ValLaws.{to_z-of_z}
 use borrow.Author.Tests.{not-true, not-false}
-use Rattle.sizes.specs.Rank.{rank_of}
 use Rattle.finds.specs.Near.{near_of}
 use Rattle.ranges.proofs.Walking.{walked_few, walked_laid}
 use Rattle.ranges.proofs.OpenCases.{signed_lt}
 use Rattle.ranges.proofs.FastCases.{fast_walk, fast_crossed, fast_many, fast_full, fast_given_lem}
-use borrow.Author.Rules.{rules}
-use Rattle.ranges.proofs.fast_range.Reads as reads
-use Rattle.ranges.proofs.fast_range.Lts as lts
-use Rattle.finds.proofs.near.Reads as near-reads
-use Rattle.ranges.proofs.lay.Reads as lay-reads
-use Rattle.ranges.proofs.long.Reads as long-reads
-use Rattle.ranges.proofs.smaller.Reads as smaller-reads
-use Rattle.ranges.proofs.walk_range.Reads as walk-range-reads
-use Rattle.sizes.proofs.rank.Reads as rank-reads
 use Rattle.ranges.proofs.fast_range.Goals as goal
 
 pub returns-then-high-low : goal.returns-then-high-low

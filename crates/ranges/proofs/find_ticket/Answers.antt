@@ -2,11 +2,9 @@
 use mathlib.Core.Logic.{by_cases}
 use native.Mathlib.Decide.{ℕ_discrete}
 use borrow.Author.Rules.{rules}
-use Prim.Native.Nat.{ℕ, ◌≤◌, ◌<◌, ◌-◌, ◌+◌}
-use mathlib.Core.Path.{◌≡◌, refl, sym, ap, ◌∙◌}
+use mathlib.Core.Path.{sym}
 use native.Mathlib.Omega.{arith}
-use lib.ListN.{length}
-use Rattle.ranges.proofs.Tickets.{Past, index_at, index_none}
+use Rattle.ranges.proofs.Tickets.{index_at, index_none}
 use Rattle.ranges.proofs.find_ticket.Goals as goal
 
 pub loop-i-init : goal.loop-i-init

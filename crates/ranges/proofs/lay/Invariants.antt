@@ -1,18 +1,8 @@
 -- `ranges::lay` meets its contract. The invariant: the first i elements are laid.
-use mathlib.Core.Path.{◌≡◌, refl, sym, ap, ◌∙◌}
-use Prim.Native.Nat.{ℕ, suc, ◌≤◌, ◌<◌, ◌-◌, ◌+◌}
-use native.Mathlib.Omega.{arith}
-use native.Mathlib.Numerals.{add-one}
-use lib.ListN.{length, get_or, set, take, length-set}
-use lib.Seq.{length-take-le, take-suc}
-use lib.IntN.{pos}
-use mir.Syntax.{w64}
-use mir.ValLaws.{to_z-of_z}
+use mathlib.Core.Path.{◌≡◌}
+use Prim.Native.Nat.{◌≤◌, ◌-◌}
+use lib.ListN.{length, take}
 use Rattle.lists.specs.Buffers.{written}
-use Rattle.lists.proofs.Writing.{written_none}
-use Rattle.ranges.proofs.Walking.{written_more}
-use Rattle.ranges.proofs.lay.Reads as reads
-use Rattle.ranges.proofs.lay.Lts as lts
 use Rattle.ranges.proofs.lay.Given as goal
 
 abbrev pub invariant-loop-i : goal.invariant-loop-i

@@ -1,17 +1,8 @@
 -- `ranges::may_rest` meets its contract: one law for each return.
 use mathlib.Core.Path.{◌≡◌, sym, ◌∙◌}
-use Prim.Native.Nat.{ℕ, ◌≤◌, ◌<◌}
-use lib.Dec.{ltb}
 use borrow.Author.Tests.{eq-eqb, ne_eqb, lt-ltb, le-ltb}
-use Rattle.rows.specs.Rows.{insertions, places}
+use Rattle.rows.specs.Rows.{places}
 use Rattle.ranges.specs.Walk.{may_rest}
-use borrow.Author.Rules.{rules}
-use Rattle.ranges.proofs.may_rest.Reads as reads
-use Rattle.ranges.proofs.may_rest.Lts as lts
-use Rattle.ranges.proofs.long.Reads as long-reads
-use Rattle.rows.proofs.cell.Reads as cell-reads
-use Rattle.tables.proofs.inserted.Reads as inserted-reads
-use Rattle.tables.proofs.removed.Reads as removed-reads
 use Rattle.ranges.proofs.may_rest.Goals as goal
 
 pub returns-then-version-long : goal.returns-then-version-long

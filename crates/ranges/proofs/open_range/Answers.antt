@@ -1,16 +1,8 @@
 -- `ranges::open_range` meets its contract: one law for each return.
-use mathlib.Core.Path.{◌≡◌, sym, ◌∙◌}
 use mathlib.Core.Bool.{true, false}
-use native.Mathlib.Omega.{arith}
 use mir.Syntax.{w64}
 use mir.ValLaws.{to_z-of_z}
 use Rattle.ranges.proofs.OpenCases.{signed_lt, open_crossed, open_full, open_last, open_new}
-use borrow.Author.Rules.{rules}
-use Rattle.ranges.proofs.open_range.Reads as reads
-use Rattle.ranges.proofs.open_range.Lts as lts
-use Rattle.finds.proofs.near.Reads as near-reads
-use Rattle.rows.proofs.wide.Reads as wide-reads
-use Rattle.sizes.proofs.rank.Reads as rank-reads
 use Rattle.ranges.proofs.open_range.Goals as goal
 
 pub returns-then-high-low : goal.returns-then-high-low

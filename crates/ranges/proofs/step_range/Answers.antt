@@ -1,20 +1,9 @@
 -- `ranges::step_range` meets its contract: one law for each return.
 use mathlib.Core.Path.{◌≡◌, sym, ◌∙◌}
-use Prim.Native.Nat.{◌≤◌}
 use native.Mathlib.Omega.{arith}
-use lib.ListN.{length}
 use Rattle.ranges.specs.Tickets.{index_of}
-use Rattle.ranges.specs.Walk.{WalkedBy}
 use Rattle.ranges.proofs.Walking.{walked_few}
 use Rattle.ranges.proofs.StepCases.{step_none, step_full, step_on}
-use borrow.Author.Rules.{rules}
-use Rattle.ranges.proofs.step_range.Reads as reads
-use Rattle.ranges.proofs.step_range.Lts as lts
-use Rattle.ranges.proofs.find_ticket.Reads as find-ticket-reads
-use Rattle.ranges.proofs.long.Reads as long-reads
-use Rattle.ranges.proofs.smaller.Reads as smaller-reads
-use Rattle.ranges.proofs.walk_range.Reads as walk-range-reads
-use Rattle.rows.proofs.wide.Reads as wide-reads
 use Rattle.ranges.proofs.step_range.Goals as goal
 
 pub returns-then-j-open : goal.returns-then-j-open

@@ -1,22 +1,9 @@
 -- `ranges::walk_range` meets its contract. The invariant: what was handed out, with what is ahead, is all that the range may rest on.
-use mathlib.Core.Path.{◌≡◌, refl, sym, ap, ◌∙◌}
-use mathlib.Core.Bool.{true, false}
-use Prim.Native.Nat.{ℕ, ◌≤◌, ◌<◌}
-use native.Mathlib.Omega.{arith}
-use lib.ListN.{length, get_or, length-set}
-use lib.IntN.{ℤ, pos}
-use mir.Syntax.{w64}
-use mir.ValLaws.{to_z-of_z}
-use borrow.Author.Tests.{not-true, not-false}
+use mathlib.Core.Path.{◌≡◌}
+use lib.ListN.{length}
 use Rattle.levels.specs.Levels.{onward}
-use Rattle.ranges.specs.Walk.{may_rest, walk, WalkReady}
-use Rattle.ranges.proofs.Walking.{Going, going_start, going_skip, going_take, going_less, going_tail, going_high, going_full}
-use Rattle.ranges.proofs.walk_range.Reads as reads
-use Rattle.ranges.proofs.walk_range.Lts as lts
-use Rattle.levels.proofs.link.Reads as link-reads
-use Rattle.ranges.proofs.may_rest.Reads as may-rest-reads
-use Rattle.rows.proofs.wide.Reads as wide-reads
-use Rattle.sizes.proofs.unrank.Reads as unrank-reads
+use Rattle.ranges.specs.Walk.{walk}
+use Rattle.ranges.proofs.Walking.{Going}
 use Rattle.ranges.proofs.walk_range.Given as goal
 
 abbrev pub invariant-loop-m : goal.invariant-loop-m

@@ -1,16 +1,10 @@
 -- `returns::free_node` meets its contract.
-use mathlib.Core.Path.{◌≡◌, ap, ◌∙◌}
+use mathlib.Core.Path.{ap, ◌∙◌}
 use native.Mathlib.Omega.{arith}
 use Rattle.rows.specs.Rows.{heights}
 use Rattle.levels.specs.Stitch.{unstitched}
 use Rattle.levels.proofs.Joining.{length_unstitched, unstitched_field}
 use Rattle.returns.specs.Freeing.{freed}
-use borrow.Author.Rules.{rules}
-use Rattle.returns.proofs.free_node.Reads as reads
-use Rattle.returns.proofs.free_node.Lts as lts
-use Rattle.levels.proofs.unstitch.Reads as unstitch-reads
-use Rattle.places.proofs.release.Reads as release-reads
-use Rattle.rows.proofs.cell.Reads as cell-reads
 use Rattle.returns.proofs.free_node.Goals as goal
 
 pub unstitch-requires : goal.unstitch-requires

@@ -1,16 +1,8 @@
 -- `returns::hand_over` meets its contract: one law for each return.
-use mathlib.Core.Path.{◌≡◌, refl, sym, ◌∙◌}
+use mathlib.Core.Path.{refl, sym, ◌∙◌}
 use native.Mathlib.Omega.{arith}
 use Rattle.model.specs.declared.Handed.TheVariants.{Refused, Freed, Held}
 use Rattle.returns.proofs.HandCases.{handed, case_far, case_other, case_none, case_new, case_old}
-use borrow.Author.Rules.{rules}
-use Rattle.returns.proofs.hand_over.Reads as reads
-use Rattle.returns.proofs.hand_over.Lts as lts
-use Rattle.places.proofs.retire.Reads as retire-reads
-use Rattle.returns.proofs.free_node.Reads as free-node-reads
-use Rattle.rows.proofs.cell.Reads as cell-reads
-use Rattle.rows.proofs.wide.Reads as wide-reads
-use Rattle.tables.proofs.inserted.Reads as inserted-reads
 use Rattle.returns.proofs.hand_over.Goals as goal
 
 pub returns-then-n-cap : goal.returns-then-n-cap

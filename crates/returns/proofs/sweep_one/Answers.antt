@@ -1,12 +1,7 @@
 -- `returns::sweep_one` meets its contract.
-use mathlib.Core.Path.{◌≡◌, ◌∙◌}
+use mathlib.Core.Path.{◌∙◌}
 use native.Mathlib.Omega.{arith}
 use Rattle.returns.proofs.HandCases.{swept_none, swept_one}
-use borrow.Author.Rules.{rules}
-use Rattle.returns.proofs.sweep_one.Reads as reads
-use Rattle.returns.proofs.sweep_one.Lts as lts
-use Rattle.places.proofs.take_front.Reads as take-front-reads
-use Rattle.returns.proofs.free_node.Reads as free-node-reads
 use Rattle.returns.proofs.sweep_one.Goals as goal
 
 pub returns-then-due-eq0 : goal.returns-then-due-eq0

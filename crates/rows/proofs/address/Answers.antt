@@ -1,7 +1,4 @@
 -- `rows::address` meets its contract.
-use borrow.Author.Rules.{rules}
-use Rattle.rows.proofs.address.Reads as reads
-use Rattle.rows.proofs.address.Lts as lts
 use mathlib.Core.Path.{sym}
 use native.Mathlib.Omega.{arith}
 use Rattle.rows.proofs.Columns.{low_at, three_at, few_at, six_at, seven_at, eight_at, mid_at, high_at}

@@ -1,12 +1,7 @@
 -- `rows::cell` meets its contract.
 use mathlib.Core.Path.{sym}
 use native.Mathlib.Omega.{arith}
-use borrow.Author.Rules.{rules}
 use Rattle.rows.proofs.Columns.{column_in}
-use Rattle.rows.proofs.cell.Reads as reads
-use Rattle.rows.proofs.cell.Lts as lts
-use Rattle.rows.proofs.address.Reads as address-reads
-use Rattle.rows.proofs.wide.Reads as wide-reads
 use Rattle.rows.proofs.cell.Goals as goal
 
 pub address-requires : goal.address-requires

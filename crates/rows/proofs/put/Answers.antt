@@ -1,12 +1,7 @@
 -- `rows::put` meets its contract.
 use mathlib.Core.Path.{sym}
 use native.Mathlib.Omega.{arith}
-use borrow.Author.Rules.{rules}
 use Rattle.rows.proofs.Columns.{put_in}
-use Rattle.rows.proofs.put.Reads as reads
-use Rattle.rows.proofs.put.Lts as lts
-use Rattle.rows.proofs.address.Reads as address-reads
-use Rattle.rows.proofs.wide.Reads as wide-reads
 use Rattle.rows.proofs.put.Goals as goal
 
 pub address-at-requires : goal.address-at-requires

@@ -1,13 +1,8 @@
 -- `sizes::bucket_of` meets its contract.
-use borrow.Author.Rules.{rules}
 use mathlib.Core.Path.{◌≡◌, ◌∙◌}
 use native.Mathlib.Nat.{mod-lt}
 use native.Mathlib.Omega.{arith}
 use Rattle.sizes.proofs.Ranking.{bucket_pattern}
-use Rattle.sizes.proofs.bucket_of.Reads as reads
-use Rattle.sizes.proofs.bucket_of.Lts as lts
-use Rattle.sizes.proofs.pattern.Reads as pattern-reads
-use Rattle.sizes.proofs.remainder.Reads as remainder-reads
 use Rattle.sizes.proofs.bucket_of.Goals as goal
 
 pub returns-then-m-eq5857 : goal.returns-then-m-eq5857

@@ -1,8 +1,5 @@
 -- `sizes::pattern` meets its contract.
-use borrow.Author.Rules.{rules}
 use Rattle.sizes.proofs.Ranking.{pattern_low, pattern_high}
-use Rattle.sizes.proofs.pattern.Reads as reads
-use Rattle.sizes.proofs.pattern.Lts as lts
 use Rattle.sizes.proofs.pattern.Goals as goal
 
 pub returns-then-rank-lt9223372036854775808 : goal.returns-then-rank-lt9223372036854775808

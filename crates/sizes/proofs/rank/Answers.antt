@@ -1,7 +1,6 @@
 -- `rank::rank` meets its contract.
 use mathlib.Core.Path.{sym, ap}
 use native.Mathlib.Omega.{arith}
-use lib.IntN.{nat_abs}
 use Rattle.sizes.specs.Rank.{rank_of}
 use Rattle.lists.proofs.Signs.{neg, nonneg}
 use Rattle.sizes.proofs.rank.Goals as goal

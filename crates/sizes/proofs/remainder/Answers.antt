@@ -1,14 +1,5 @@
 -- `sizes::remainder` meets its contract.
-use borrow.Author.Rules.{rules}
 use Rattle.sizes.proofs.Ranking.{by_halves}
-use Rattle.sizes.proofs.remainder.Reads as reads
-use Rattle.sizes.proofs.remainder.Lts as lts
-use Rattle.sizes.proofs.remainder_1471.Reads as remainder-1471-reads
-use Rattle.sizes.proofs.remainder_191.Reads as remainder-191-reads
-use Rattle.sizes.proofs.remainder_2927.Reads as remainder-2927-reads
-use Rattle.sizes.proofs.remainder_367.Reads as remainder-367-reads
-use Rattle.sizes.proofs.remainder_733.Reads as remainder-733-reads
-use Rattle.sizes.proofs.remainder_97.Reads as remainder-97-reads
 use Rattle.sizes.proofs.remainder.Goals as goal
 
 pub returns-in-2927 : goal.returns-in-2927

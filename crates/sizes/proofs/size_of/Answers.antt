@@ -1,12 +1,7 @@
-use Prim.Native.Nat.{◌≤◌, ◌-◌}
-use mathlib.Core.Path.{◌≡◌, refl, sym, ◌∙◌}
+use mathlib.Core.Path.{refl, ◌∙◌}
 use native.Mathlib.Omega.{arith}
-use lib.ListN.{drop}
-use borrow.Author.Rules.{rules}
-use Rattle.sizes.specs.Sizes.{sizes, size_of, seek}
+use Rattle.sizes.specs.Sizes.{sizes, size_of}
 use Rattle.sizes.proofs.Sizing.{seek_here, seek_next, seek_none}
-use Rattle.sizes.proofs.size_of.Reads as reads
-use Rattle.sizes.proofs.size_of.Lts as lts
 use Rattle.sizes.proofs.size_of.Goals as goal
 
 pub loop-i-init : goal.loop-i-init

@@ -1,7 +1,6 @@
 -- `rank::unrank` meets its contract.
 use native.Mathlib.Omega.{arith}
 use Rattle.sizes.proofs.Ranking.{key_low, key_high}
-use borrow.Author.Rules.{rules}
 use Rattle.sizes.proofs.unrank.Goals as goal
 
 pub returns-then-r-lt9223372036854775808 : goal.returns-then-r-lt9223372036854775808

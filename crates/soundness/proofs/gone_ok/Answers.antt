@@ -1,11 +1,6 @@
 -- `soundness::gone_ok` meets its contract. The invariant: the nodes passed were removed before the version.
-use Prim.Native.Nat.{◌+◌, ◌-◌, ◌<◌, ◌≤◌}
 use native.Mathlib.Omega.{arith}
-use lib.ListN.{get_or}
-use Rattle.lists.specs.Tests.{Each}
 use Rattle.lists.proofs.Answers.{none_yet, one_more, all_no, all_yes}
-use Rattle.rows.specs.Rows.{removals}
-use Rattle.places.specs.Places.{ring_of}
 use Rattle.soundness.proofs.Ringing.{list_says}
 use Rattle.soundness.proofs.Versions.{numbered}
 use Rattle.soundness.proofs.gone_ok.Goals as goal

@@ -1,7 +1,6 @@
 -- `soundness::node_ok` meets its contract.
 use mathlib.Core.Path.{sym, ◌∙◌}
 use native.Mathlib.Omega.{arith}
-use borrow.Author.Rules.{rules}
 use Rattle.lists.proofs.Answers.{no, yes! }
 use Rattle.lists.proofs.Comparing.{says_le}
 use Rattle.soundness.proofs.Versions.{numbered}

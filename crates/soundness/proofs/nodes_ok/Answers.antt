@@ -2,13 +2,11 @@
 use mathlib.Core.Path.{sym, ◌∙◌}
 use mathlib.Core.Bool.{true, false}
 use native.Mathlib.Omega.{arith}
-use lib.ListN.{length}
 use borrow.Author.Tests.{eq-eqb, ne_eqb}
 use Rattle.lists.proofs.Answers.{no, failed, passed}
 use Rattle.lists.proofs.Comparing.{says_eq}
-use Rattle.levels.specs.Levels.{onward}
 use Rattle.levels.proofs.Nearing.{walk_less}
-use Rattle.soundness.proofs.Walking.{Walking, walking_start, walking_room, walking_timed, walking_next, walking_on, walked_line, walked_all, walked_old, walked_few}
+use Rattle.soundness.proofs.Walking.{walking_start, walking_room, walking_timed, walking_next, walking_on, walked_line, walked_all, walked_old, walked_few}
 use Rattle.soundness.proofs.nodes_ok.Goals as goal
 
 pub link-n-requires : goal.link-n-requires

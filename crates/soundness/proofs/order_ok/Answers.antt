@@ -1,7 +1,6 @@
 -- `soundness::order_ok` meets its contract.
 use mathlib.Core.Path.{sym, ◌∙◌}
 use native.Mathlib.Omega.{arith}
-use borrow.Author.Rules.{rules}
 use Rattle.lists.proofs.Answers.{yes! }
 use Rattle.lists.proofs.Comparing.{says_le, says_lt}
 use Rattle.soundness.proofs.order_ok.Goals as goal

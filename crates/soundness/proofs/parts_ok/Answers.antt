@@ -1,7 +1,6 @@
 -- `soundness::parts_ok` meets its contract.
 use mathlib.Core.Path.{sym, ◌∙◌}
 use native.Mathlib.Omega.{arith}
-use borrow.Author.Rules.{rules}
 use Rattle.lists.proofs.Answers.{no}
 use Rattle.lists.proofs.Comparing.{says_eq}
 use Rattle.soundness.proofs.parts_ok.Goals as goal

@@ -1,7 +1,6 @@
 -- `soundness::ring_node` meets its contract.
 use mathlib.Core.Path.{◌∙◌}
 use native.Mathlib.Omega.{arith}
-use borrow.Author.Rules.{rules}
 use Rattle.soundness.proofs.Ringing.{ring_low, ring_high, ring_node_lem}
 use Rattle.soundness.proofs.ring_node.Goals as goal
 

@@ -1,8 +1,6 @@
 -- `soundness::set_up` meets its contract.
 use mathlib.Core.Path.{sym, ap, ◌∙◌}
 use lib.ListN.{replicate}
-use borrow.Author.Rules.{rules}
-use borrow.Author.Tests.{not-true, not-false}
 use Rattle.lists.proofs.Answers.{passed}
 use Rattle.sizes.proofs.Sizing.{size_rule}
 use Rattle.tables.specs.Tables.{Tables}

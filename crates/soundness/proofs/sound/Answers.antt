@@ -78,8 +78,7 @@ pub returns-then-not-tickets_ok : goal.returns-then-not-tickets_ok
 returns-then-not-tickets_ok c = no (λ S. failed (rw c.wide-ranges.ensures at c.tickets_ok.ensures) c.if-not-tickets_ok.true (sound_tested _ S).opened)
 
 pub lists_ok-requires : goal.lists_ok-requires
-lists_ok-requires c =
-    (
+lists_ok-requires c = (
   ring_ready (given (goal.at.lists_ok-requires c).Start) (lengths (goal.at.lists_ok-requires c).Else-not-lengths_ok) (passed c.places_ok.ensures c.if-not-places_ok.false),
   rw c.wide-ranges.ensures c.if-coordinator-gt-TICKETS.false,
 )

@@ -1,12 +1,8 @@
 -- `soundness::tickets_ok` meets its contract. The invariant: the tickets passed are fine.
-use mathlib.Core.Path.{◌≡◌}
-use Prim.Native.Nat.{◌-◌, ◌≤◌}
 use native.Mathlib.Omega.{arith}
-use lib.ListN.{length}
 use borrow.Author.Rules.{rules}
-use Rattle.lists.specs.Tests.{Each}
 use Rattle.lists.proofs.Answers.{none_yet, one_more, all_no, all_yes, failed, passed}
-use Rattle.soundness.proofs.Tickets.{Fine, opened_says}
+use Rattle.soundness.proofs.Tickets.{opened_says}
 use Rattle.soundness.proofs.tickets_ok.Goals as goal
 
 pub loop-i-init : goal.loop-i-init
@@ -43,8 +39,7 @@ pub loop-i-smaller-else-later-version : goal.loop-i-smaller-else-later-version
 loop-i-smaller-else-later-version c = omega arith
 
 pub loop-i-preserved-else-later-version : goal.loop-i-preserved-else-later-version
-loop-i-preserved-else-later-version c =
-    (
+loop-i-preserved-else-later-version c = (
   c.loop-i.invariant.0,
   omega arith,
   one_more _ c.loop-i.invariant.2 (record { past = c.if-version-counter.false; rests = passed c.rest_ok.ensures c.if-not-rest_ok.false; next = λ l. c.if-later-version.false }),
@@ -54,8 +49,7 @@ pub loop-i-smaller : goal.loop-i-smaller
 loop-i-smaller c = omega arith
 
 pub loop-i-preserved : goal.loop-i-preserved
-loop-i-preserved c =
-    (
+loop-i-preserved c = (
   c.loop-i.invariant.0,
   omega arith,
   one_more _ c.loop-i.invariant.2 (record { past = c.if-version-counter.false; rests = passed c.rest_ok.ensures c.if-not-rest_ok.false; next = λ l. absurd (omega (arith, l, c.if-i-ranges.false)) }),

@@ -3,8 +3,6 @@ use mathlib.Core.Path.{sym, ap}
 use Rattle.sizes.specs.Sizes.{size_of}
 use Rattle.tables.specs.Tables.{levels_of}
 use Rattle.tables.proofs.Capacities.{levels_none}
-use Rattle.tables.proofs.levels_of.Reads as reads
-use Rattle.tables.proofs.levels_of.Lts as lts
 use Rattle.tables.proofs.levels_of.Goals as goal
 
 pub returns-in-4096 : goal.returns-in-4096

@@ -3,7 +3,6 @@ use Prim.Native.Nat.{ℕ}
 use mathlib.Core.Path.{refl, ap, ap₂}
 use mathlib.Core.List.{List, [], ◌∷◌}
 use Rattle.transactions.proofs.Operating.{signed, last_code}
-use borrow.Author.Rules.{rules}
 use Rattle.transactions.proofs.call_of.Goals as goal
 
 pub narrow-requires : goal.narrow-requires

@@ -1,5 +1,5 @@
 -- `transactions::length_all` meets its contract. The invariant: the total is the length of the first numbers' bytes. The measure is how many are left.
-use Prim.Native.Nat.{◌-◌, ◌*◌, ◌≤◌, ◌<◌}
+use Prim.Native.Nat.{◌<◌}
 use mathlib.Core.Path.{◌≡◌, refl, ap, ◌∙◌}
 use native.Mathlib.Omega.{arith}
 use lib.ListN.{length, take}

@@ -1,11 +1,8 @@
 -- `transactions::length_all` meets its contract. The invariant: the total is the length of the first numbers' bytes. The measure is how many are left.
-use Prim.Native.Nat.{◌-◌, ◌*◌, ◌≤◌, ◌<◌}
-use mathlib.Core.Path.{◌≡◌, refl, ap, ◌∙◌}
-use native.Mathlib.Omega.{arith}
+use Prim.Native.Nat.{◌-◌, ◌*◌, ◌≤◌}
+use mathlib.Core.Path.{◌≡◌}
 use lib.ListN.{length, take}
-use borrow.Author.Rules.{rules}
 use Rattle.transactions.specs.Sequences.{bytes_of}
-use Rattle.transactions.proofs.Sequencing.{length_next}
 use Rattle.transactions.proofs.length_all.Given as goal
 
 abbrev pub invariant-loop-i : goal.invariant-loop-i

@@ -4,7 +4,6 @@ use mathlib.Core.Path.{sym, ap, ap₂, ◌∙◌}
 use mathlib.Core.List.{List, [], ◌∷◌}
 use Rattle.transactions.specs.Calls.{numbers_of}
 use Rattle.transactions.proofs.Operating.{coded_as, told}
-use borrow.Author.Rules.{rules}
 use Rattle.transactions.proofs.numbers_of.Goals as goal
 
 pub returns-in-Lookup : goal.returns-in-Lookup

@@ -1,14 +1,9 @@
 -- `transactions::put_all` meets its contract. The invariant: the first numbers' bytes stand at the front. The measure is how many are left.
-use Prim.Native.Nat.{ℕ, ◌+◌, ◌-◌, ◌≤◌, ◌<◌}
-use mathlib.Core.Path.{◌≡◌, refl, ap, ap₂, ◌∙◌}
-use mathlib.Core.List.{List}
-use native.Mathlib.Omega.{arith}
-use lib.ListN.{length, get_or, take}
-use lib.Seq.{sets, length-sets}
-use borrow.Author.Rules.{rules}
-use Rattle.groups.specs.Groups.{groups_of}
+use Prim.Native.Nat.{◌-◌, ◌≤◌}
+use mathlib.Core.Path.{◌≡◌}
+use lib.ListN.{length, take}
+use lib.Seq.{sets}
 use Rattle.transactions.specs.Sequences.{bytes_of}
-use Rattle.transactions.proofs.Sequencing.{length_next, length_within, sets_next}
 use Rattle.transactions.proofs.put_all.Given as goal
 
 abbrev pub invariant-loop-i : goal.invariant-loop-i

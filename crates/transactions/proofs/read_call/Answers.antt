@@ -1,7 +1,6 @@
 -- `transactions::read_call` meets its contract.
 use native.Mathlib.Omega.{arith}
 use Rattle.transactions.proofs.Joining.{code_byte}
-use borrow.Author.Rules.{rules}
 use Rattle.transactions.proofs.read_call.Goals as goal
 
 pub read_operands-requires : goal.read_operands-requires

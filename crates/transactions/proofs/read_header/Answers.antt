@@ -4,7 +4,6 @@ use mathlib.Core.List.{[], ◌∷◌}
 use Rattle.transactions.specs.Calls.{small}
 use Rattle.transactions.specs.Inner.{WholeNumbers, NumbersRead}
 use Rattle.transactions.proofs.Joining.{header_whole}
-use borrow.Author.Rules.{rules}
 use Rattle.transactions.proofs.read_header.Goals as goal
 use Rattle.transactions.proofs.read_header.Goals.{In-Whole}
 

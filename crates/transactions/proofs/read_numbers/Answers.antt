@@ -1,14 +1,11 @@
 -- `transactions::read_numbers` meets its contract. The invariant: the first numbers are found (`Found`). The measure is how many are left.
-use Prim.Native.Nat.{◌-◌, ◌≤◌}
 use mathlib.Core.Path.{subst}
 use native.Mathlib.Omega.{arith}
 use lib.ListN.{drop, replicate, length-drop}
-use borrow.Author.Rules.{rules}
 use Rattle.groups.specs.Groups.{Stands, Reads}
 use Rattle.groups.proofs.Standing.{stands_some}
 use Rattle.transactions.specs.Sequences.{listed}
-use Rattle.transactions.specs.Inner.{in_order}
-use Rattle.transactions.proofs.Running.{Due, due_over, due_cut, due_waits, due_bad, Found, found_none, found_due, found_with, found_whole}
+use Rattle.transactions.proofs.Running.{Due, due_over, due_cut, due_waits, due_bad, found_none, found_due, found_with, found_whole}
 use Rattle.transactions.proofs.read_numbers.Goals as goal
 use Rattle.transactions.proofs.read_numbers.Goals.{After-read-number, In-Of}
 
@@ -32,8 +29,7 @@ pub overflow_add-place : goal.overflow_add-place
 overflow_add-place c = let s = stands (goal.at.overflow_add-place c).In-Of in record { fits = omega (arith, s.inside, stands_some s, length-drop c.loop-i.place c.args.bytes.now) }
 
 pub loop-i-preserved : goal.loop-i-preserved
-loop-i-preserved c =
-    (
+loop-i-preserved c = (
   c.requires,
   found_with c.loop-i.invariant.1 c.loop-i-test.true (stands (goal.at.loop-i-preserved c).In-Of) c.if-most-n.false c.with_number-found.ensures,
 )

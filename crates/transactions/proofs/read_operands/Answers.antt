@@ -6,7 +6,6 @@ use Rattle.transactions.specs.declared.Numbers.{Numbers}
 use Rattle.transactions.specs.Calls.{operands_of}
 use Rattle.transactions.specs.Inner.{WholeNumbers, NumbersRead}
 use Rattle.transactions.proofs.Joining.{operands_whole, operands_end, operands_call, operands_stop, operands_waits}
-use borrow.Author.Rules.{rules}
 use Rattle.transactions.proofs.read_operands.Goals as goal
 use Rattle.transactions.proofs.read_operands.Goals.{After-read_numbers-numbers, In-Whole}
 

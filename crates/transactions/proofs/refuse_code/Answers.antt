@@ -3,7 +3,6 @@ use mathlib.Core.Path.{sym, ◌∙◌}
 use mathlib.Core.Bool.{true≢false}
 use Rattle.transactions.proofs.Running.{due_none, due_cut, due_waits}
 use Rattle.transactions.proofs.Joining.{code_due, no_code}
-use borrow.Author.Rules.{rules}
 use Rattle.transactions.proofs.refuse_code.Goals as goal
 
 pub returns-then-more : goal.returns-then-more

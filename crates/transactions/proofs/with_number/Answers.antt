@@ -1,8 +1,6 @@
 -- `transactions::with_number` meets its contract.
 use mathlib.Core.Path.{◌≡◌, refl}
 use native.Mathlib.Omega.{arith}
-use Rattle.transactions.proofs.with_number.Reads as reads
-use Rattle.transactions.proofs.with_number.Lts as lts
 use Rattle.transactions.proofs.with_number.Goals as goal
 
 pub returns-then-i-eq0 : goal.returns-then-i-eq0

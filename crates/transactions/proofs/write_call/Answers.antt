@@ -1,5 +1,4 @@
 -- `transactions::write_call` meets its contract.
-use borrow.Author.Rules.{rules}
 use Rattle.transactions.proofs.write_call.Goals as goal
 
 pub returns : goal.returns

@@ -1,5 +1,4 @@
 -- `transactions::write_header` meets its contract.
-use borrow.Author.Rules.{rules}
 use Rattle.transactions.proofs.write_header.Goals as goal
 
 pub returns : goal.returns

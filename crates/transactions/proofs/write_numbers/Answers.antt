@@ -3,7 +3,6 @@ use native.Mathlib.Omega.{arith}
 use lib.ListN.{take}
 use Rattle.groups.proofs.Writing.{writes_short, writes_whole}
 use Rattle.transactions.specs.Sequences.{bytes_of}
-use borrow.Author.Rules.{rules}
 use Rattle.transactions.proofs.write_numbers.Goals as goal
 
 pub returns-then-buffer-total : goal.returns-then-buffer-total

@@ -1,12 +1,8 @@
 -- `notation::forms::code_of` meets its contract.
-use mathlib.Core.Path.{◌≡◌, sym, ◌∙◌}
-use Prim.Native.Nat.{◌+◌, ◌-◌, ◌≤◌}
+use mathlib.Core.Path.{sym, ◌∙◌}
 use native.Mathlib.Omega.{arith}
 use native.Mathlib.Nat.{zero-add}
-use lib.ListN.{drop}
-use borrow.Author.Rules.{rules}
 use Rattle.notation.specs.Words.{part}
-use Rattle.notation.specs.Forms.{names, find}
 use Rattle.notation.proofs.Forming.{find_here, find_behind, find_none}
 use Rattle.notation.proofs.forms.code_of.Goals as goal
 

@@ -1,5 +1,4 @@
 -- `notation::forms::form_of` meets its contract.
-use borrow.Author.Rules.{rules}
 use Rattle.notation.proofs.Forming.{form_at}
 use Rattle.notation.proofs.forms.form_of.Goals as goal
 

@@ -1,5 +1,4 @@
 -- `notation::forms::is_name` meets its contract.
-use borrow.Author.Rules.{rules}
 use mathlib.Core.Path.{sym}
 use lib.Seq.{length-take-le}
 use Rattle.notation.proofs.Forming.{same_told}

@@ -1,5 +1,4 @@
 -- `notation::forms::name_of` meets its contract.
-use borrow.Author.Rules.{rules}
 use Rattle.notation.proofs.Forming.{name_at}
 use Rattle.notation.proofs.forms.name_of.Goals as goal
 

@@ -1,5 +1,4 @@
 -- `notation::forms::read_operand` meets its contract.
-use borrow.Author.Rules.{rules}
 use borrow.Author.Tests.{eq-eqb, ne_eqb}
 use Rattle.notation.proofs.Forming.{operand_start, operand_other}
 use Rattle.notation.specs.Words.{part}

@@ -1,9 +1,5 @@
 -- `notation::numerals::all_digits` meets its contract.
-use mathlib.Core.Path.{◌≡◌, refl, sym, ap, ◌∙◌}
-use Prim.Native.Nat.{◌-◌, ◌≤◌}
-use lib.ListN.{length}
-use borrow.Author.Rules.{rules}
-use Rattle.notation.specs.Words.{part}
+use mathlib.Core.Path.{refl, sym, ap, ◌∙◌}
 use Rattle.notation.specs.Numerals.{all_digits}
 use Rattle.notation.proofs.Numbering.{part_none, digits_low, digits_high, digits_go}
 use Rattle.notation.proofs.numerals.all_digits.Goals as goal

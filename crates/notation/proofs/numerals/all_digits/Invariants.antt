@@ -1,11 +1,9 @@
 -- `notation::numerals::all_digits` meets its contract.
-use mathlib.Core.Path.{◌≡◌, refl, sym, ap, ◌∙◌}
+use mathlib.Core.Path.{◌≡◌}
 use Prim.Native.Nat.{◌-◌, ◌≤◌}
 use lib.ListN.{length}
-use borrow.Author.Rules.{rules}
 use Rattle.notation.specs.Words.{part}
 use Rattle.notation.specs.Numerals.{all_digits}
-use Rattle.notation.proofs.Numbering.{part_none, digits_low, digits_high, digits_go}
 use Rattle.notation.proofs.numerals.all_digits.Given as goal
 
 abbrev pub invariant-loop-i : goal.invariant-loop-i

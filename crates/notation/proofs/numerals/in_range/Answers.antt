@@ -1,6 +1,5 @@
 -- `notation::numerals::in_range` meets its contract.
 use borrow.Author.Tests.{eq-eqb, ne_eqb}
-use borrow.Author.Rules.{rules}
 use Rattle.notation.proofs.numerals.in_range.Goals as goal
 
 pub returns-then-kind-eq-KEY : goal.returns-then-kind-eq-KEY

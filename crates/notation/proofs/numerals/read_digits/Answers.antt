@@ -1,8 +1,6 @@
 -- `notation::numerals::read_digits` meets its contract.
-use borrow.Author.Rules.{rules}
 use mathlib.Core.Path.{sym, ap, ◌∙◌}
 use native.Mathlib.Omega.{arith}
-use borrow.Author.Tests.{not-true, not-false}
 use Rattle.listing.specs.Decimals.{worth_from}
 use Rattle.notation.specs.Words.{part}
 use Rattle.notation.specs.Numerals.{integer_of, value_as}

@@ -1,5 +1,4 @@
 -- `notation::numerals::read_number` meets its contract.
-use borrow.Author.Rules.{rules}
 use mathlib.Core.Path.{sym, ◌∙◌}
 use Rattle.notation.proofs.Numbering.{number_minus, number_plain}
 use Rattle.notation.proofs.numerals.read_number.Goals as goal

@@ -1,6 +1,5 @@
 -- `notation::numerals::signed` meets its contract.
 use Rattle.notation.proofs.Numbering.{key_zero, key_low, key_negative, key_high, key_positive}
-use borrow.Author.Rules.{rules}
 use Rattle.notation.proofs.numerals.signed.Goals as goal
 
 pub returns-then-magnitude-eq0 : goal.returns-then-magnitude-eq0

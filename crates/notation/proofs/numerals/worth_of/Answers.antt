@@ -1,14 +1,11 @@
 -- `notation::numerals::worth_of` meets its contract.
-use mathlib.Core.Path.{◌≡◌, refl, ◌∙◌}
-use mathlib.Core.Bool.{true}
-use Prim.Native.Nat.{◌+◌, ◌-◌, ◌*◌, ◌≤◌, ◌<◌}
+use mathlib.Core.Path.{refl, ◌∙◌}
+use Prim.Native.Nat.{◌+◌, ◌-◌, ◌*◌, ◌<◌}
 use native.Mathlib.Omega.{arith}
-use lib.ListN.{length, get_or}
-use borrow.Author.Rules.{rules}
+use lib.ListN.{get_or}
 use Rattle.listing.specs.Decimals.{worth_from}
 use Rattle.transactions.specs.Calls.{any}
 use Rattle.notation.specs.Words.{part}
-use Rattle.notation.specs.Numerals.{all_digits}
 use Rattle.notation.proofs.Numbering.{part_none, Here, digits_here, worth_over, worth_great, worth_small}
 use Rattle.notation.proofs.numerals.worth_of.Goals as goal
 use Rattle.notation.proofs.numerals.worth_of.Goals.{After-wide-digit}

@@ -1,5 +1,4 @@
 -- `notation::putting::put_call` meets its contract.
-use borrow.Author.Rules.{rules}
 use mathlib.Core.Path.{sym, ap, ap₂, ◌∙◌}
 use mathlib.Core.List.{[], ◌∷◌}
 use lib.IntN.{pos}

@@ -1,5 +1,4 @@
 -- `notation::putting::put_two` meets its contract.
-use borrow.Author.Rules.{rules}
 use mathlib.Core.List.{[], ◌∷◌}
 use native.Mathlib.Omega.{arith}
 use Rattle.notation.specs.Forms.{name_of}

@@ -1,14 +1,8 @@
 -- `notation::showing::put_bytes_shown` meets its contract.
-use mathlib.Core.Path.{◌≡◌, refl}
-use mathlib.Core.List.{map}
-use Prim.Native.Nat.{◌+◌, ◌-◌, ◌≤◌}
+use mathlib.Core.Path.{refl}
 use native.Mathlib.Omega.{arith}
-use lib.ListN.{length, take, length-set}
-use borrow.Author.Rules.{rules}
-use Rattle.listing.specs.Puts.{Put}
+use lib.ListN.{length-set}
 use Rattle.listing.proofs.Putting.{put_none_lem}
-use Rattle.notation.specs.Words.{part}
-use Rattle.notation.specs.Showing.{shown_byte}
 use Rattle.notation.proofs.Telling.{shown_next, shown_bytes}
 use Rattle.notation.proofs.showing.put_bytes_shown.Goals as goal
 

@@ -1,15 +1,11 @@
 -- `notation::showing::put_bytes_shown` meets its contract.
-use mathlib.Core.Path.{◌≡◌, refl}
+use mathlib.Core.Path.{◌≡◌}
 use mathlib.Core.List.{map}
-use Prim.Native.Nat.{◌+◌, ◌-◌, ◌≤◌}
-use native.Mathlib.Omega.{arith}
-use lib.ListN.{length, take, length-set}
-use borrow.Author.Rules.{rules}
+use Prim.Native.Nat.{◌-◌, ◌≤◌}
+use lib.ListN.{length, take}
 use Rattle.listing.specs.Puts.{Put}
-use Rattle.listing.proofs.Putting.{put_none_lem}
 use Rattle.notation.specs.Words.{part}
 use Rattle.notation.specs.Showing.{shown_byte}
-use Rattle.notation.proofs.Telling.{shown_next, shown_bytes}
 use Rattle.notation.proofs.showing.put_bytes_shown.Given as goal
 
 abbrev pub invariant-loop-i : goal.invariant-loop-i

@@ -1,6 +1,5 @@
 -- `notation::showing::put_shown` meets its contract.
 use native.Mathlib.Omega.{arith}
-use borrow.Author.Rules.{rules}
 use Rattle.notation.proofs.Telling.{shown_whole, shown_cut}
 use Rattle.notation.proofs.showing.put_shown.Goals as goal
 

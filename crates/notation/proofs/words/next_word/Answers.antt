@@ -1,5 +1,4 @@
 -- `notation::words::next_word` meets its contract.
-use borrow.Author.Rules.{rules}
 use native.Mathlib.Omega.{arith}
 use Rattle.notation.proofs.Wording.{next_word, run_empty, run_remark, run_word}
 use Rattle.notation.proofs.words.next_word.Goals as goal

@@ -1,9 +1,8 @@
 -- `notation::words::run_end` meets its contract: what is left of the run, behind the place reached, ends where the run ends.
-use Prim.Native.Nat.{suc, ◌+◌, ◌-◌, ◌≤◌}
+use Prim.Native.Nat.{suc, ◌+◌}
 use mathlib.Core.Path.{◌≡◌, refl}
 use native.Mathlib.Omega.{arith}
-use lib.ListN.{length, drop}
-use borrow.Author.Rules.{rules}
+use lib.ListN.{drop}
 use Rattle.notation.specs.Words.{run_of}
 use Rattle.notation.proofs.Wording.{run_stops, run_goes, run_over}
 use Rattle.notation.proofs.words.run_end.Goals as goal

@@ -1,8 +1,6 @@
 -- `notation::words::word_at` meets its contract.
-use Prim.Native.Nat.{◌-◌, ◌≤◌}
 use native.Mathlib.Omega.{arith}
-use borrow.Author.Rules.{rules}
-use Rattle.notation.proofs.Wording.{Passed, passed_none, passed_next, passed_word, passed_over}
+use Rattle.notation.proofs.Wording.{passed_none, passed_next, passed_word, passed_over}
 use Rattle.notation.proofs.words.word_at.Goals as goal
 
 pub loop-i-init : goal.loop-i-init

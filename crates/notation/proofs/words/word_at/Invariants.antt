@@ -1,8 +1,6 @@
 -- `notation::words::word_at` meets its contract.
 use Prim.Native.Nat.{◌-◌, ◌≤◌}
-use native.Mathlib.Omega.{arith}
-use borrow.Author.Rules.{rules}
-use Rattle.notation.proofs.Wording.{Passed, passed_none, passed_next, passed_word, passed_over}
+use Rattle.notation.proofs.Wording.{Passed}
 use Rattle.notation.proofs.words.word_at.Given as goal
 
 abbrev pub invariant-loop-i : goal.invariant-loop-i
