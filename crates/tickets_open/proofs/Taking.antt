@@ -10,7 +10,6 @@ use lib.ListN.{length, replicate, set}
 use Rattle.tables.specs.declared.Ticket.{Ticket}
 use Rattle.tables.specs.Tables.{no_ticket, ticket_at, gained}
 use Rattle.ranges.specs.Tickets.{slide}
-use Rattle.tickets_open.specs.declared.Place.{Place}
 use Rattle.tickets_open.specs.declared.Changed.{Changed}
 use Rattle.tickets_open.specs.Open.{found_in, removed_in}
 use Rattle.tickets_open.specs.declared.Place.TheVariants.{At, Nothing}

@@ -1,17 +1,9 @@
 -- `tickets_open::find_open_value` meets its contract. The invariant: the tickets before i are not of the version.
-use mathlib.Core.Logic.{by_cases}
-use native.Mathlib.Decide.{ℕ_discrete}
-use borrow.Author.Rules.{rules}
-use Prim.Native.Nat.{ℕ, ◌≤◌, ◌<◌, ◌-◌, ◌+◌}
-use mathlib.Core.Path.{◌≡◌, refl, sym, ap, ◌∙◌, subst}
-use native.Mathlib.Omega.{arith}
+use Prim.Native.Nat.{◌≤◌, ◌-◌}
+use mathlib.Core.Path.{◌≡◌}
 use lib.ListN.{length}
 use Rattle.ranges.proofs.Tickets.{Past}
 use Rattle.tickets_open.specs.Open.{open_in}
-use Rattle.tickets_open.proofs.Taking.{found_at, found_none}
-use Rattle.tickets_open.proofs.find_open_value.Reads as reads
-use Rattle.tickets_open.proofs.find_open_value.Lts as lts
-use Rattle.tickets_open.proofs.open_in.Reads as open-in-reads
 use Rattle.tickets_open.proofs.find_open_value.Given as goal
 
 abbrev pub invariant-loop-i : goal.invariant-loop-i

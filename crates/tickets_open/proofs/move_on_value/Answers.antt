@@ -2,9 +2,6 @@
 use mathlib.Core.Path.{refl}
 use native.Mathlib.Omega.{arith}
 use borrow.Author.Tests.{eq-eqb, ne_eqb, lt-ltb, le-ltb}
-use borrow.Author.Rules.{rules}
-use Rattle.tickets_open.proofs.move_on_value.Reads as reads
-use Rattle.tickets_open.proofs.move_on_value.Lts as lts
 use Rattle.tickets_open.proofs.move_on_value.Goals as goal
 
 pub returns-then-count-ne16 : goal.returns-then-count-ne16

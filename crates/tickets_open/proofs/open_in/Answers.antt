@@ -2,8 +2,6 @@
 use mathlib.Core.Path.{refl}
 use native.Mathlib.Omega.{arith}
 use borrow.Author.Tests.{eq-eqb, ne_eqb}
-use Rattle.tickets_open.proofs.open_in.Reads as reads
-use Rattle.tickets_open.proofs.open_in.Lts as lts
 use Rattle.tickets_open.proofs.open_in.Goals as goal
 
 pub returns-then-count-ne16 : goal.returns-then-count-ne16

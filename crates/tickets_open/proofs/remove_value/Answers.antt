@@ -2,11 +2,6 @@
 use native.Mathlib.Omega.{arith}
 use Rattle.tickets_open.specs.Open.{open_in}
 use Rattle.tickets_open.proofs.Taking.{removed_none, removed_oldest, removed_unfit, removed_unfit_older, removed_other}
-use borrow.Author.Rules.{rules}
-use Rattle.tickets_open.proofs.remove_value.Reads as reads
-use Rattle.tickets_open.proofs.remove_value.Lts as lts
-use Rattle.tickets_open.proofs.open_in.Reads as open-in-reads
-use Rattle.tickets_open.proofs.slide_down.Reads as slide-down-reads
 use Rattle.tickets_open.proofs.remove_value.Goals as goal
 
 pub returns-then-index-open : goal.returns-then-index-open

@@ -1,12 +1,8 @@
 -- `tickets_open::slide_down` meets its contract. The invariant: from i on, what is left to do comes to the same.
-use borrow.Author.Rules.{rules}
-use Prim.Native.Nat.{ℕ, suc, ◌≤◌, ◌<◌, ◌-◌, ◌+◌}
-use mathlib.Core.Path.{◌≡◌, refl, sym, ap, ◌∙◌}
-use native.Mathlib.Omega.{arith}
-use native.Mathlib.Numerals.{add-one}
-use lib.ListN.{length, length-set}
+use Prim.Native.Nat.{◌<◌, ◌-◌}
+use mathlib.Core.Path.{◌≡◌}
+use lib.ListN.{length}
 use Rattle.ranges.specs.Tickets.{slide}
-use Rattle.ranges.proofs.Tickets.{slide_step, slide_end}
 use Rattle.tickets_open.proofs.slide_down.Given as goal
 
 abbrev pub invariant-loop-i : goal.invariant-loop-i
