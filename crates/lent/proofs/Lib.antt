@@ -1,5 +1,3 @@
--- Lemmas that several proofs of this crate share.
-pub mod Data
+-- Theorems over all lent forms.
 pub mod Once
-pub mod Putting
 pub mod Unchanged

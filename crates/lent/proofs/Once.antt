@@ -8,8 +8,6 @@ use lib.Dec.{T as Holds, eqb, eqb→eq}
 use lib.IntN.{ℤ}
 use borrow.Author.Tests.{eq-eqb}
 use Rattle.sizes.specs.declared.Version.{Version}
-use Rattle.model.specs.declared.SetUp.{SetUp}
-use Rattle.model.specs.declared.Ranged.{Ranged}
 use Rattle.model.specs.Calls.{Call, Answer}
 use Rattle.tables.specs.Tables.{Tables}
 use Rattle.soundness.proofs.Never.{one_set_up}
