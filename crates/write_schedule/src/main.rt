@@ -39,16 +39,21 @@ fn say_line(rt: &HostRuntime, line: u64) {
     say(rt, b": ");
 }
 
-// Tells what failed and why, in the system's words alone: std's message has the error's number behind them.
+// The system's own words in a message of std: behind them stands the error's number.
+fn words_of(message: &str) -> &str {
+    match message.split_once(" (os error ") {
+        Some((words, _)) => words,
+        None => message,
+    }
+}
+
+// Tells what failed and why.
 fn fail(rt: &HostRuntime, what: &str, error: io::Error) {
     let Ok(message) = format!(in rt.alloc(); "{error}") else {
         let _ = eprintln!(rt; "{what}: {error}");
         return;
     };
-    let words = match message.split_once(" (os error ") {
-        Some((words, _)) => words,
-        None => message.as_str(),
-    };
+    let words = words_of(&message);
     let _ = eprintln!(rt; "{what}: {words}");
 }
 
