@@ -2,12 +2,12 @@
 -- Assumes nothing.
 use mathlib.Core.Path.{◌≡◌, ◌∙◌, ap}
 use mathlib.Core.List.{List}
-use Prim.Native.Nat.{ℕ, ◌+◌, ◌*◌, ◌/◌, ◌<◌}
+use Prim.Native.Nat.{ℕ, ◌/◌, ◌<◌}
 use native.Mathlib.Omega.{arith}
 use native.Mathlib.Decide.{ℕ_discrete}
 use lib.ListN.{length, get_or, set, replicate, length-replicate, get_or-replicate, length-set}
 use lib.Seq.{get_or-set_same, get_or-set_other}
-use Rattle.rows.specs.Rows.{address, column, put, upd, chains, places}
+use Rattle.rows.specs.Rows.{address, put, upd, chains, places}
 use Rattle.rows.proofs.Columns.{column_in, inside, upd_same, upd_other, length_put, column_same, column_other}
 use Rattle.buckets.specs.Buckets.{first_of, Buckets}
 use Rattle.buckets.specs.Finding.{Holds}

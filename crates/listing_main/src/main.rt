@@ -3,17 +3,17 @@
 
 ghost use Rattle.std.specs.Prelude.{◌≤◌, length};
 
-use libc::STDOUT_FILENO;
+use std::io;
 
 // Prints the first bytes of a buffer.
-fn print(out: &[u8], end: usize)
+fn print(rt: &impl Print, out: &[u8], end: usize) -> io::Result<()>
     requires { end ≤ length out.now }
 {
-    io::write_all(STDOUT_FILENO, &out[..end]);
+    rt.write_all(&out[..end])
 }
 
 // Lines of transactions, one behind another in one buffer.
-fn show_lines() {
+fn show_lines(rt: &impl Print) -> io::Result<()> {
     let mut out = [0u8; 1024];
     let numbers = [10, 0, 2, 1, -9223372036854775808, 9223372036854775807, -1];
     let keys = [-9223372036854775808, -10, 0, 9223372036854775807];
@@ -30,24 +30,25 @@ fn show_lines() {
         4,
     );
     let third = listing::put_line(&mut out, second, 10, &numbers, 1, &keys, &values, 0);
-    print(&out, third);
+    print(rt, &out, third)
 }
 
 // A line of a word, a number of its own behind it.
-fn show_number(word: &[u8], number: u64) {
+fn show_number(rt: &impl Print, word: &[u8], number: u64) -> io::Result<()> {
     let mut out = [0u8; 64];
     if word.len() < 32 {
         let end = listing::put_number_line(&mut out, 0, word, number);
-        print(&out, end);
+        print(rt, &out, end)?;
     }
+    Ok(())
 }
 
-fn main() {
+fn main(rt: HostRuntime) -> io::Result<()> {
     let mut out = [0u8; 64];
-    show_number(b"set-up", 0);
-    show_lines();
-    show_number(b"stop", 18446744073709551615);
+    show_number(&rt, b"set-up", 0)?;
+    show_lines(&rt)?;
+    show_number(&rt, b"stop", 18446744073709551615)?;
     let word = listing::put_bytes(&mut out, 0, b"en");
     let end = listing::put_word_line(&mut out, word, b"d");
-    print(&out, end);
+    print(&rt, &out, end)
 }

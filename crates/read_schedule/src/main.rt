@@ -6,7 +6,7 @@ ghost use Rattle.std.specs.Prelude.{◌≡◌, true, ◌≤◌, length};
 ghost use Rattle.windows.specs.Windows.{Held, left_of};
 
 use groups::Wrote;
-use libc::{STDERR_FILENO, STDOUT_FILENO};
+use std::io;
 use transactions::{Call, Header, HeaderReading, Reading};
 use windows::{Fetched, Window};
 
@@ -27,54 +27,81 @@ struct Taken {
     pub going: bool,
 }
 
-fn say(text: &[u8]) {
-    io::write_all(STDERR_FILENO, text);
+fn say(rt: &HostRuntime, text: &[u8]) {
+    let _ = rt.stderr().write_all(text);
 }
 
 // Tells where the bytes stop making sense: at a place behind the first byte held.
-fn refuse(window: Window, place: usize) {
-    say(b"byte ");
-    io::print_decimal(STDERR_FILENO, windows::offset_of(window, place));
-    say(b": not a schedule file from here\n");
+fn refuse(rt: &HostRuntime, window: Window, place: usize) {
+    let offset = windows::offset_of(window, place);
+    say(rt, b"byte ");
+    let _ = eprint!(rt; "{offset}");
+    say(rt, b": not a schedule file from here\n");
+}
+
+// The system's own words in a message of std: behind them stands the error's number.
+fn words_of(message: &str) -> &str {
+    match message.split_once(" (os error ") {
+        Some((words, _)) => words,
+        None => message,
+    }
+}
+
+// Tells what failed and why.
+fn fail(rt: &HostRuntime, what: &str, error: io::Error) {
+    let Ok(message) = format!(in rt.alloc(); "{error}") else {
+        let _ = eprintln!(rt; "{what}: {error}");
+        return;
+    };
+    let words = words_of(&message);
+    let _ = eprintln!(rt; "{what}: {words}");
+}
+
+// Writes the front of a buffer to standard output, as much as was put there.
+fn put_front(rt: &HostRuntime, buffer: &[u8], wrote: Wrote) -> io::Result<()> {
+    if let Wrote::Length(n) = wrote {
+        if n <= buffer.len() {
+            return rt.stdout().write_all(&buffer[..n]);
+        }
+    }
+    Err(io::Error::from_raw_os_error(0))
 }
 
 // Writes the front of a buffer, as much as was put there.
-fn write_front(buffer: &[u8], wrote: Wrote) -> bool {
-    if let Wrote::Length(n) = wrote {
-        if n <= buffer.len() {
-            if io::write_all(STDOUT_FILENO, &buffer[..n]) {
-                return true;
-            }
+fn write_front(rt: &HostRuntime, buffer: &[u8], wrote: Wrote) -> bool {
+    match put_front(rt, buffer, wrote) {
+        Ok(()) => true,
+        Err(error) => {
+            fail(rt, "standard output", error);
+            false
         }
     }
-    os::fail(b"standard output");
-    false
 }
 
-fn show_call(call: Call) -> bool {
+fn show_call(rt: &HostRuntime, call: Call) -> bool {
     let mut text = [0u8; 80];
     let wrote = notation::write_call(&mut text, call);
-    write_front(&text, wrote)
+    write_front(rt, &text, wrote)
 }
 
-fn show_header(header: Header) -> bool {
+fn show_header(rt: &HostRuntime, header: Header) -> bool {
     let mut text = [0u8; 80];
     let wrote = notation::write_header(&mut text, header);
-    write_front(&text, wrote)
+    write_front(rt, &text, wrote)
 }
 
 // Takes the header from the bytes held, if it is there.
-fn take_header(bytes: &[u8], window: Window) -> Taken
+fn take_header(rt: &HostRuntime, bytes: &[u8], window: Window) -> Taken
     ensures { result.at ≤ length bytes.now }
 {
     let reading = transactions::read_header(bytes, window.more);
     match reading {
         HeaderReading::Header(header, len) => Taken {
             at: len,
-            going: show_header(header),
+            going: show_header(rt, header),
         },
         HeaderReading::Stop(place) => {
-            refuse(window, place);
+            refuse(rt, window, place);
             Taken {
                 at: 0,
                 going: false,
@@ -85,7 +112,7 @@ fn take_header(bytes: &[u8], window: Window) -> Taken
 }
 
 // Takes the calls from a place of the bytes held on.
-fn take_calls(bytes: &[u8], from: usize, window: Window) -> Taken
+fn take_calls(rt: &HostRuntime, bytes: &[u8], from: usize, window: Window) -> Taken
     requires { from ≤ length bytes.now }
     ensures { result.at ≤ length bytes.now }
 {
@@ -94,13 +121,13 @@ fn take_calls(bytes: &[u8], from: usize, window: Window) -> Taken
         let reading = transactions::read_call(bytes, at, window.more);
         match reading {
             Reading::Call(call, len) => {
-                if !show_call(call) {
+                if !show_call(rt, call) {
                     return Taken { at, going: false };
                 }
                 at += len;
             }
             Reading::Stop(place) => {
-                refuse(window, place);
+                refuse(rt, window, place);
                 return Taken { at, going: false };
             }
             Reading::More => {
@@ -112,20 +139,20 @@ fn take_calls(bytes: &[u8], from: usize, window: Window) -> Taken
 }
 
 // Takes the header, if it was not yet read, and the calls behind it.
-fn take_bytes(bytes: &[u8], window: Window, header: bool) -> Taken
+fn take_bytes(rt: &HostRuntime, bytes: &[u8], window: Window, header: bool) -> Taken
     ensures { result.at ≤ length bytes.now }
 {
     if header {
-        return take_calls(bytes, 0, window);
+        return take_calls(rt, bytes, 0, window);
     }
-    let taken = take_header(bytes, window);
+    let taken = take_header(rt, bytes, window);
     if !taken.going {
         return taken;
     }
     if taken.at == 0 {
         return taken;
     }
-    take_calls(bytes, taken.at, window)
+    take_calls(rt, bytes, taken.at, window)
 }
 
 // Whether the header was read once so many more bytes were taken, of which it would have been the first.
@@ -137,13 +164,13 @@ fn header_read(header: bool, at: usize) -> bool {
 }
 
 // Takes what is held. Behind the end of the input nothing follows.
-fn take_held(buffer: &[u8], window: Window, header: bool) -> Progress
+fn take_held(rt: &HostRuntime, buffer: &[u8], window: Window, header: bool) -> Progress
     requires { Held window (length buffer.now) }
     ensures { Held result.window (length buffer.now) × (left_of result.window ≤ left_of window) × (result.going ≡ true → result.window.more ≡ true) }
 {
     let from = window.from;
     let to = window.to;
-    let taken = take_bytes(&buffer[from..to], window, header);
+    let taken = take_bytes(rt, &buffer[from..to], window, header);
     let rest = windows::drop_front(window, taken.at);
     let read = header_read(header, taken.at);
     if window.more {
@@ -160,7 +187,7 @@ fn take_held(buffer: &[u8], window: Window, header: bool) -> Progress
     }
 }
 
-fn main() {
+fn main(rt: HostRuntime) {
     let mut buffer = [0u8; ROOM];
     let mut progress = Progress {
         window: windows::unread_window(),
@@ -168,10 +195,14 @@ fn main() {
         going: true,
     };
     while progress.going {
-        let Fetched::Held(window) = windows::fetch(b"read_schedule", &mut buffer, progress.window)
-        else {
+        let Fetched::Held(window) = windows::fetch(
+            &rt,
+            b"read_schedule",
+            &mut buffer,
+            progress.window,
+        ) else {
             return;
         };
-        progress = take_held(&buffer, window, progress.header);
+        progress = take_held(&rt, &buffer, window, progress.header);
     }
 }

@@ -2,7 +2,7 @@
 -- Assumes nothing.
 use mathlib.Core.Path.{◌≡◌, refl, sym, ap, ◌∙◌, subst}
 use mathlib.Core.Bool.{Bool, true, false, cond, true≢false}
-use mathlib.Core.List.{List, [], ◌∷◌, ◌++◌, append_assoc, append-nil}
+use mathlib.Core.List.{List, [], ◌++◌, append_assoc, append-nil}
 use Prim.Native.Nat.{ℕ, ◌+◌, ◌≤◌}
 use native.Mathlib.Omega.{arith}
 use lib.Dec.{eqb}
@@ -29,7 +29,7 @@ use Rattle.schedule.specs.declared.Session.{Session}
 use Rattle.schedule.specs.declared.Next.{Next}
 use Rattle.schedule.specs.declared.Turned.{Turned}
 use Rattle.schedule.specs.SetUps.{set_up_result, Memory}
-use Rattle.schedule.specs.Turns.{input_size, tables_of, Starts, Ready, set_up_line, HeaderTurn, last_of, next_of, PartBy, TurnBy, holding}
+use Rattle.schedule.specs.Turns.{input_size, tables_of, Starts, Ready, HeaderTurn, last_of, next_of, PartBy}
 use Rattle.schedule.specs.Files.{PrintsFile, Runs}
 use Rattle.schedule.specs.Files as W
 use Rattle.schedule.proofs.Turning.{starts_ready, bytes_held, ended_last, next_none, read_none, on_over, on_read, over_on, over_read, over_unsound, read_over, on_unsound, read_unsound, ended_over, after_on, after_over, after_read}

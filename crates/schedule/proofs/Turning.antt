@@ -2,7 +2,7 @@
 -- Assumes nothing.
 use mathlib.Core.Path.{◌≡◌, refl, sym, ap, ◌∙◌, subst}
 use mathlib.Core.Bool.{Bool, true, false, cond, true≢false}
-use mathlib.Core.List.{List, [], ◌∷◌, ◌++◌, append-nil}
+use mathlib.Core.List.{List, [], ◌++◌}
 use Prim.Native.Nat.{ℕ, ◌+◌, ◌-◌, ◌^◌, ◌≤◌, ◌<◌, min}
 use native.Mathlib.Omega.{arith}
 use lib.Dec.{eqb}
@@ -11,9 +11,8 @@ use lib.IntN.{ℤ}
 use borrow.Author.Tests.{eqb-true}
 use Rattle.sizes.specs.Sizes.{size_of}
 use Rattle.transactions.specs.declared.Header.{Header}
-use Rattle.transactions.specs.declared.Reading.{Reading}
 use Rattle.transactions.specs.declared.HeaderReading.{HeaderReading}
-use Rattle.transactions.specs.Readings.{CallRead, HeaderRead, WholeHeader}
+use Rattle.transactions.specs.Readings.{HeaderRead, WholeHeader}
 use Rattle.transactions.proofs.Lengths.{header_length}
 use Rattle.listing.specs.Puts.{Room, Put}
 use Rattle.listing.proofs.Putting.{put_none_lem, put_wider, put_then, put_shown_lem}
@@ -27,13 +26,13 @@ use Rattle.lines.specs.Files.{end_line, stop_line}
 use Rattle.lines.proofs.Parting.{Kept, ran_within, ran_full, ran_stop}
 use Rattle.windows.specs.declared.Window.{Window}
 use Rattle.windows.specs.declared.Fetched.{Fetched}
-use Rattle.windows.specs.Windows.{Held, count_of, held_in, place_of, behind, left_of, FetchedBy, Fetches}
+use Rattle.windows.specs.Windows.{count_of, held_in, place_of, behind, left_of, FetchedBy, Fetches}
 use Rattle.windows.proofs.Going.{held_length, behind_held, behind_place, behind_left, fetch_left}
 use Rattle.schedule.specs.declared.Session.{Session}
 use Rattle.schedule.specs.declared.Prepared.{Prepared}
 use Rattle.schedule.specs.declared.Next.{Next}
 use Rattle.schedule.specs.declared.Turned.{Turned}
-use Rattle.schedule.specs.SetUps.{set_up_result, Memory, memory_of, Whole, lengths_of, PreparedBy}
+use Rattle.schedule.specs.SetUps.{set_up_result, Memory, memory_of, Whole, PreparedBy}
 use Rattle.schedule.specs.Turns.{input_size, last_most, Starts, Ready, Rooms, Laid, set_up_line, next_after, Begins, Only, HeaderTurn, HeaderBy, last_of, Within, next_of, PartBy, Goes, TurnBy, holding, HeldThen, ReadOnBy, tables_of}
 use Rattle.schedule.proofs.Preparing.{lengths_fit, Fits, part_front}
 

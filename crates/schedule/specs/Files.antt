@@ -1,6 +1,6 @@
 -- What `schedule` prints of a file; and the program as it runs, turn after turn.
 -- Assumes nothing.
-use Rattle.std.specs.Prelude.{◌≡◌, true, false, List, [], ◌++◌, ℕ, length, take, drop, ℤ}
+use Rattle.std.specs.Prelude.{◌≡◌, false, List, [], ◌++◌, ℕ, length, take, drop, ℤ}
 use Rattle.std.proofs.Math.Option.{some}
 use Rattle.transactions.specs.declared.Header.{Header}
 use Rattle.transactions.specs.declared.HeaderReading.{HeaderReading}

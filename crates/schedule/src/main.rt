@@ -8,7 +8,6 @@ ghost use Rattle.schedule.specs.SetUps.{memory_of, Whole, lengths_of, PreparedBy
 ghost use Rattle.schedule.specs.Turns.{Starts, Ready, Rooms, input_size, last_most, Within, last_of, next_of, next_after, HeaderBy, PartBy, Begins, Goes, TurnBy, ReadOnBy};
 
 use batch::End;
-use libc::{STDERR_FILENO, STDOUT_FILENO};
 use model::SetUp;
 use sizes::{Sized, Version};
 use tables::{Coordinator, Ticket};
@@ -382,31 +381,31 @@ fn turn(
 
 // ---- what no contract says: which bytes are read and written
 
-fn complain(text: &[u8]) {
-    io::write_all(STDERR_FILENO, text);
+fn complain(rt: &HostRuntime, text: &[u8]) {
+    let _ = rt.stderr().write_all(text);
 }
 
 // Prints the first bytes of a buffer and answers whether all of them were written.
-fn print(out: &[u8], end: usize) -> bool
+fn print(rt: &HostRuntime, out: &[u8], end: usize) -> bool
     requires { end ≤ length out.now }
 {
-    if io::write_all(STDOUT_FILENO, &out[..end]) {
+    if rt.stdout().write_all(&out[..end]).is_ok() {
         return true;
     }
-    complain(b"schedule: writing standard output failed\n");
+    complain(rt, b"schedule: writing standard output failed\n");
     false
 }
 
 // What is held at the next turn, once more was read where that comes first.
-fn read_on(input: &mut [u8], window: Window, next: Next) -> Fetched
+fn read_on(rt: &HostRuntime, input: &mut [u8], window: Window, next: Next) -> Fetched
     ensures { ReadOnBy window input.old next result input.new }
 {
     match next {
         Next::On => Fetched::Held(window),
-        Next::Read => windows::fetch(b"schedule", input, window),
+        Next::Read => windows::fetch(rt, b"schedule", input, window),
         Next::Over => Fetched::Failed,
         Next::Unsound => {
-            complain(b"schedule: the tables are not sound\n");
+            complain(rt, b"schedule: the tables are not sound\n");
             Fetched::Failed
         }
     }
@@ -414,6 +413,7 @@ fn read_on(input: &mut [u8], window: Window, next: Next) -> Fetched
 
 // Makes turn after turn, prints what each lays down, and reads on.
 fn run(
+    rt: &HostRuntime,
     keys: &mut [u64],
     values: &mut [i64],
     rows: &mut [u32],
@@ -431,12 +431,12 @@ fn run(
         let turned = turn(
             keys, values, rows, buckets, session, input, answers, out_keys, out_values, out,
         );
-        if !print(out, turned.length) {
+        if !print(rt, out, turned.length) {
             return;
         }
         session = turned.session;
         let next = turned.next;
-        let Fetched::Held(window) = read_on(input, session.window, next) else {
+        let Fetched::Held(window) = read_on(rt, input, session.window, next) else {
             return;
         };
         session.window = window;
@@ -444,7 +444,7 @@ fn run(
 }
 
 // Lends the memory for the tables, which is that of capacity 256, and the room for one batch at a time.
-fn main() {
+fn main(rt: HostRuntime) {
     let mut keys = [0u64; NODES];
     let mut values = [0i64; NODES];
     let mut rows = [0u32; ROWS];
@@ -455,6 +455,7 @@ fn main() {
     let mut out_values = [0i64; PAIRS];
     let mut out = [0u8; OUTPUT];
     run(
+        &rt,
         &mut keys,
         &mut values,
         &mut rows,

@@ -5,7 +5,7 @@ ghost use Rattle.std.specs.Prelude.{◌≡◌, ◌+◌, ◌-◌, ◌^◌, ◌≤
 ghost use Rattle.lists.specs.Tests.{Says};
 ghost use Rattle.windows.specs.Windows.{unread, count_of, place_of, behind, Readable, FetchedBy};
 
-use libc::{STDERR_FILENO, STDIN_FILENO};
+use std::io::Read;
 
 // The greatest offset that can be counted.
 const LAST: u64 = 18446744073709551615;
@@ -122,13 +122,13 @@ fn readable(window: Window, size: usize) -> bool
 }
 
 // Tells on standard error what failed in a program.
-fn complain(program: &[u8], text: &[u8]) {
-    io::write_all(STDERR_FILENO, program);
-    io::write_all(STDERR_FILENO, text);
+fn complain(rt: &HostRuntime, program: &[u8], text: &[u8]) {
+    let _ = rt.stderr().write_all(program);
+    let _ = rt.stderr().write_all(text);
 }
 
 // Moves what is held to the front of the buffer and reads once behind it.
-fn read_behind(program: &[u8], input: &mut [u8], window: Window) -> Fetched
+fn read_behind(rt: &HostRuntime, program: &[u8], input: &mut [u8], window: Window) -> Fetched
     requires { Readable window (length input.old) }
     ensures { FetchedBy window input.old input.new result }
 {
@@ -137,14 +137,13 @@ fn read_behind(program: &[u8], input: &mut [u8], window: Window) -> Fetched
     let read = window.read;
     let held = to - from;
     move_to_front(input, from, to);
-    let got = libc::read(STDIN_FILENO, &mut input[held..]);
-    if got < 0 {
-        complain(program, b": reading standard input failed\n");
+    let Ok(count) = rt.stdin().read(&mut input[held..]) else {
+        complain(rt, program, b": reading standard input failed\n");
         return Fetched::Failed;
-    }
-    let count = io::count(got, &input[held..]);
+    };
     if LAST - read < count as u64 {
         complain(
+            rt,
             program,
             b": standard input is too long to count its bytes\n",
         );
@@ -159,12 +158,12 @@ fn read_behind(program: &[u8], input: &mut [u8], window: Window) -> Fetched
 }
 
 // Moves what is held to the front of the buffer and reads once behind it. Where that fails, the program of this name complains on standard error.
-pub fn fetch(program: &[u8], input: &mut [u8], window: Window) -> Fetched
+pub fn fetch(rt: &HostRuntime, program: &[u8], input: &mut [u8], window: Window) -> Fetched
     ensures { FetchedBy window input.old input.new result }
 {
     if readable(window, input.len()) {
-        return read_behind(program, input, window);
+        return read_behind(rt, program, input, window);
     }
-    complain(program, b": no room to read standard input\n");
+    complain(rt, program, b": no room to read standard input\n");
     Fetched::Failed
 }

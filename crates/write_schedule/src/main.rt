@@ -5,8 +5,8 @@
 ghost use Rattle.std.specs.Prelude.{◌≡◌, ◌≤◌, length};
 
 use groups::Wrote;
-use libc::{STDERR_FILENO, STDIN_FILENO, STDOUT_FILENO};
 use notation::{Fault, Line};
+use std::io::{self, Read};
 use transactions::{Call, Header};
 
 // The longest line that is taken, and how much is read at once.
@@ -29,14 +29,42 @@ struct Begun {
     pub progress: Progress,
 }
 
-fn say(text: &[u8]) {
-    io::write_all(STDERR_FILENO, text);
+fn say(rt: &HostRuntime, text: &[u8]) {
+    let _ = rt.stderr().write_all(text);
 }
 
-fn say_line(line: u64) {
-    say(b"line ");
-    io::print_decimal(STDERR_FILENO, line);
-    say(b": ");
+fn say_line(rt: &HostRuntime, line: u64) {
+    say(rt, b"line ");
+    let _ = eprint!(rt; "{line}");
+    say(rt, b": ");
+}
+
+// The system's own words in a message of std: behind them stands the error's number.
+fn words_of(message: &str) -> &str {
+    match message.split_once(" (os error ") {
+        Some((words, _)) => words,
+        None => message,
+    }
+}
+
+// Tells what failed and why.
+fn fail(rt: &HostRuntime, what: &str, error: io::Error) {
+    let Ok(message) = format!(in rt.alloc(); "{error}") else {
+        let _ = eprintln!(rt; "{what}: {error}");
+        return;
+    };
+    let words = words_of(&message);
+    let _ = eprintln!(rt; "{what}: {words}");
+}
+
+// Writes the front of a buffer to standard output, as much as was put there.
+fn put_front(rt: &HostRuntime, buffer: &[u8], wrote: Wrote) -> io::Result<()> {
+    if let Wrote::Length(n) = wrote {
+        if n <= buffer.len() {
+            return rt.stdout().write_all(&buffer[..n]);
+        }
+    }
+    Err(io::Error::from_raw_os_error(0))
 }
 
 fn stopped(progress: Progress) -> Progress {
@@ -48,34 +76,34 @@ fn stopped(progress: Progress) -> Progress {
 }
 
 // Stops, with a byte behind what was written at which the schedule file stops; nothing where no header was written.
-fn spoil(progress: Progress) -> Progress {
+fn spoil(rt: &HostRuntime, progress: Progress) -> Progress {
     if progress.header {
         let last = [notation::fault_byte()];
-        if !io::write_all(STDOUT_FILENO, &last) {
-            os::fail(b"standard output");
+        if let Err(error) = rt.stdout().write_all(&last) {
+            fail(rt, "standard output", error);
         }
     }
     stopped(progress)
 }
 
 // Tells what is wrong with the next line, and stops.
-fn refuse(progress: Progress, why: &[u8]) -> Progress {
-    say_line(progress.line);
-    say(why);
-    say(b"\n");
-    spoil(progress)
+fn refuse(rt: &HostRuntime, progress: Progress, why: &[u8]) -> Progress {
+    say_line(rt, progress.line);
+    say(rt, why);
+    say(rt, b"\n");
+    spoil(rt, progress)
 }
 
 // Tells the word of a line with this number, where there is one.
-fn say_word(line: &[u8], number: usize) -> bool {
+fn say_word(rt: &HostRuntime, line: &[u8], number: usize) -> bool {
     let mut buffer = [0u8; 42];
     let wrote = notation::show_word(&mut buffer, line, number);
     if let Wrote::Length(n) = wrote {
         if 0 < n {
             if n <= buffer.len() {
-                say(b"\"");
-                say(&buffer[..n]);
-                say(b"\"");
+                say(rt, b"\"");
+                say(rt, &buffer[..n]);
+                say(rt, b"\"");
                 return true;
             }
         }
@@ -84,45 +112,66 @@ fn say_word(line: &[u8], number: usize) -> bool {
 }
 
 // Tells the word at fault and what was expected there, and stops.
-fn refuse_word(progress: Progress, line: &[u8], number: usize, why: &[u8]) -> Progress {
-    say_line(progress.line);
-    say_word(line, number);
-    say(why);
-    say(b"\n");
-    spoil(progress)
+fn refuse_word(
+    rt: &HostRuntime,
+    progress: Progress,
+    line: &[u8],
+    number: usize,
+    why: &[u8],
+) -> Progress {
+    say_line(rt, progress.line);
+    say_word(rt, line, number);
+    say(rt, why);
+    say(rt, b"\n");
+    spoil(rt, progress)
 }
 
 // Tells what is wrong behind the word in front of that at fault, and stops.
-fn refuse_behind(progress: Progress, line: &[u8], number: usize, why: &[u8]) -> Progress {
-    say_line(progress.line);
-    if say_word(line, number) {
-        say(b": ");
+fn refuse_behind(
+    rt: &HostRuntime,
+    progress: Progress,
+    line: &[u8],
+    number: usize,
+    why: &[u8],
+) -> Progress {
+    say_line(rt, progress.line);
+    if say_word(rt, line, number) {
+        say(rt, b": ");
     }
-    say(why);
-    say(b" behind ");
+    say(rt, why);
+    say(rt, b" behind ");
     if 0 < number {
-        say_word(line, number - 1);
+        say_word(rt, line, number - 1);
     }
-    say(b"\n");
-    spoil(progress)
+    say(rt, b"\n");
+    spoil(rt, progress)
 }
 
 // Tells the range in which the number at fault is not.
-fn refuse_range(progress: Progress, line: &[u8], number: usize, kind: u8) -> Progress {
+fn refuse_range(
+    rt: &HostRuntime,
+    progress: Progress,
+    line: &[u8],
+    number: usize,
+    kind: u8,
+) -> Progress {
     match kind {
         0 => refuse_word(
+            rt,
             progress,
             line,
             number,
             b": a number from -9223372036854775808 to 9223372036854775807 was expected",
         ),
         1 => refuse_word(
+            rt,
             progress,
             line,
             number,
             b": a number from 0 to 18446744073709551615 was expected",
         ),
         _ => refuse_word(
+            rt,
             progress,
             line,
             number,
@@ -132,8 +181,9 @@ fn refuse_range(progress: Progress, line: &[u8], number: usize, kind: u8) -> Pro
 }
 
 // Tells that the first word should be that of a header.
-fn refuse_first(progress: Progress, line: &[u8]) -> Progress {
+fn refuse_first(rt: &HostRuntime, progress: Progress, line: &[u8]) -> Progress {
     refuse_word(
+        rt,
         progress,
         line,
         0,
@@ -142,111 +192,129 @@ fn refuse_first(progress: Progress, line: &[u8]) -> Progress {
 }
 
 // Tells that the first word is no call.
-fn refuse_name(progress: Progress, line: &[u8]) -> Progress {
+fn refuse_name(rt: &HostRuntime, progress: Progress, line: &[u8]) -> Progress {
     if progress.header {
         refuse_word(
+            rt,
             progress,
             line,
             0,
             b": no such call (lookup, insert, remove, hand-over, ceil, floor, succ, pred, fast, open, step, close, sweep, tally)",
         )
     } else {
-        refuse_first(progress, line)
+        refuse_first(rt, progress, line)
     }
 }
 
 // Tells that the word `start` should stand there.
-fn refuse_start(progress: Progress, line: &[u8], number: usize) -> Progress {
-    refuse_behind(progress, line, number, b"the word \"start\" was expected")
+fn refuse_start(rt: &HostRuntime, progress: Progress, line: &[u8], number: usize) -> Progress {
+    refuse_behind(
+        rt,
+        progress,
+        line,
+        number,
+        b"the word \"start\" was expected",
+    )
 }
 
-fn refuse_fault(progress: Progress, line: &[u8], fault: Fault, number: usize) -> Progress {
+fn refuse_fault(
+    rt: &HostRuntime,
+    progress: Progress,
+    line: &[u8],
+    fault: Fault,
+    number: usize,
+) -> Progress {
     match fault {
-        Fault::UnknownWord => refuse_name(progress, line),
-        Fault::NumberMissing => refuse_behind(progress, line, number, b"a number is missing"),
-        Fault::TooManyWords => refuse_behind(progress, line, number, b"nothing more was expected"),
-        Fault::NotANumber => refuse_word(progress, line, number, b": a number was expected"),
-        Fault::OutOfRange(kind) => refuse_range(progress, line, number, kind),
-        Fault::StartMissing => refuse_start(progress, line, number),
+        Fault::UnknownWord => refuse_name(rt, progress, line),
+        Fault::NumberMissing => refuse_behind(rt, progress, line, number, b"a number is missing"),
+        Fault::TooManyWords => refuse_behind(
+            rt,
+            progress,
+            line,
+            number,
+            b"nothing more was expected",
+        ),
+        Fault::NotANumber => refuse_word(rt, progress, line, number, b": a number was expected"),
+        Fault::OutOfRange(kind) => refuse_range(rt, progress, line, number, kind),
+        Fault::StartMissing => refuse_start(rt, progress, line, number),
     }
 }
 
 // Writes the front of a buffer, as much as was put there, and goes on with the next line.
-fn write_front(progress: Progress, buffer: &[u8], wrote: Wrote) -> Progress {
-    if let Wrote::Length(n) = wrote {
-        if n <= buffer.len() {
-            if io::write_all(STDOUT_FILENO, &buffer[..n]) {
-                return Progress {
-                    line: std::num::wrapping_add_u64(progress.line, 1),
-                    header: true,
-                    going: true,
-                };
-            }
+fn write_front(rt: &HostRuntime, progress: Progress, buffer: &[u8], wrote: Wrote) -> Progress {
+    match put_front(rt, buffer, wrote) {
+        Ok(()) => Progress {
+            line: progress.line.wrapping_add(1),
+            header: true,
+            going: true,
+        },
+        Err(error) => {
+            fail(rt, "standard output", error);
+            stopped(progress)
         }
     }
-    os::fail(b"standard output");
-    stopped(progress)
 }
 
-fn write_header(progress: Progress, header: Header) -> Progress {
+fn write_header(rt: &HostRuntime, progress: Progress, header: Header) -> Progress {
     let mut buffer = [0u8; 40];
     let wrote = transactions::write_header(&mut buffer, header);
-    write_front(progress, &buffer, wrote)
+    write_front(rt, progress, &buffer, wrote)
 }
 
-fn write_call(progress: Progress, call: Call) -> Progress {
+fn write_call(rt: &HostRuntime, progress: Progress, call: Call) -> Progress {
     let mut buffer = [0u8; 40];
     let wrote = transactions::write_call(&mut buffer, call);
-    write_front(progress, &buffer, wrote)
+    write_front(rt, progress, &buffer, wrote)
 }
 
 fn passed_over(progress: Progress) -> Progress {
     Progress {
-        line: std::num::wrapping_add_u64(progress.line, 1),
+        line: progress.line.wrapping_add(1),
         header: progress.header,
         going: true,
     }
 }
 
 // Takes a line, without a byte order mark.
-fn take_words(progress: Progress, line: &[u8]) -> Progress {
+fn take_words(rt: &HostRuntime, progress: Progress, line: &[u8]) -> Progress {
     let said = notation::read_line(line);
     match said {
         Line::Nothing => passed_over(progress),
         Line::Header(header) => {
             if progress.header {
                 refuse_word(
+                    rt,
                     progress,
                     line,
                     0,
                     b": a call was expected, since there is a header",
                 )
             } else {
-                write_header(progress, header)
+                write_header(rt, progress, header)
             }
         }
         Line::Call(call) => {
             if progress.header {
-                write_call(progress, call)
+                write_call(rt, progress, call)
             } else {
-                refuse_first(progress, line)
+                refuse_first(rt, progress, line)
             }
         }
-        Line::Fault(fault, number) => refuse_fault(progress, line, fault, number),
+        Line::Fault(fault, number) => refuse_fault(rt, progress, line, fault, number),
     }
 }
 
 // Takes one line; the first may begin with a byte order mark.
-fn take_line(progress: Progress, line: &[u8]) -> Progress {
+fn take_line(rt: &HostRuntime, progress: Progress, line: &[u8]) -> Progress {
     if progress.line == 1 {
         let mark = notation::mark_length(line);
-        return take_words(progress, &line[mark..]);
+        return take_words(rt, progress, &line[mark..]);
     }
-    take_words(progress, line)
+    take_words(rt, progress, line)
 }
 
 // Takes one byte: a line feed ends the line that is begun.
-fn take_byte(line: &mut [u8], byte: u8, begun: Begun) -> Begun
+fn take_byte(rt: &HostRuntime, line: &mut [u8], byte: u8, begun: Begun) -> Begun
     requires { begun.filled ≤ length line.old }
     ensures { result.filled ≤ length line.new }
 {
@@ -255,13 +323,13 @@ fn take_byte(line: &mut [u8], byte: u8, begun: Begun) -> Begun
     if byte == b'\n' {
         return Begun {
             filled: 0,
-            progress: take_line(progress, &line[..filled]),
+            progress: take_line(rt, progress, &line[..filled]),
         };
     }
     if filled == line.len() {
         return Begun {
             filled,
-            progress: refuse(progress, b"longer than 4096 bytes"),
+            progress: refuse(rt, progress, b"longer than 4096 bytes"),
         };
     }
     line[filled] = byte;
@@ -272,14 +340,14 @@ fn take_byte(line: &mut [u8], byte: u8, begun: Begun) -> Begun
 }
 
 // Takes bytes, as long as the program is to go on.
-fn take_bytes(line: &mut [u8], bytes: &[u8], first: Begun) -> Begun
+fn take_bytes(rt: &HostRuntime, line: &mut [u8], bytes: &[u8], first: Begun) -> Begun
     requires { first.filled ≤ length line.old }
     ensures { result.filled ≤ length line.new }
 {
     let mut begun = first;
     let mut i = 0;
     while i < bytes.len() {
-        begun = take_byte(line, bytes[i], begun);
+        begun = take_byte(rt, line, bytes[i], begun);
         let progress = begun.progress;
         if !progress.going {
             return begun;
@@ -290,11 +358,12 @@ fn take_bytes(line: &mut [u8], bytes: &[u8], first: Begun) -> Begun
 }
 
 // Takes the last line, which has no line feed, and sees that there was a header.
-fn take_rest(progress: Progress, line: &[u8]) {
-    let last = take_line(progress, line);
+fn take_rest(rt: &HostRuntime, progress: Progress, line: &[u8]) {
+    let last = take_line(rt, progress, line);
     if last.going {
         if !last.header {
             refuse(
+                rt,
                 progress,
                 b"the text ends without a header, as \"capacity 64 start 0\"",
             );
@@ -311,35 +380,37 @@ fn stop(begun: Begun) -> Begun
     }
 }
 
-fn spoiled(begun: Begun) -> Begun
+fn spoiled(rt: &HostRuntime, begun: Begun) -> Begun
     ensures { result.filled ≡ begun.filled }
 {
     Begun {
         filled: begun.filled,
-        progress: spoil(begun.progress),
+        progress: spoil(rt, begun.progress),
     }
 }
 
 // Reads once, and takes what was read.
-fn read_once(line: &mut [u8], chunk: &mut [u8], begun: Begun) -> Begun
+fn read_once(rt: &HostRuntime, line: &mut [u8], chunk: &mut [u8], begun: Begun) -> Begun
     requires { begun.filled ≤ length line.old }
     ensures { result.filled ≤ length line.new }
 {
-    let got = libc::read(STDIN_FILENO, chunk);
-    let count = io::count(got, chunk);
-    if got < 0 {
-        os::fail(b"standard input");
-        return spoiled(begun);
+    match rt.stdin().read(chunk) {
+        Ok(count) => {
+            if count == 0 {
+                let filled = begun.filled;
+                take_rest(rt, begun.progress, &line[..filled]);
+                return stop(begun);
+            }
+            take_bytes(rt, line, &chunk[..count], begun)
+        }
+        Err(error) => {
+            fail(rt, "standard input", error);
+            spoiled(rt, begun)
+        }
     }
-    if count == 0 {
-        let filled = begun.filled;
-        take_rest(begun.progress, &line[..filled]);
-        return stop(begun);
-    }
-    take_bytes(line, &chunk[..count], begun)
 }
 
-fn main() {
+fn main(rt: HostRuntime) {
     let mut line = [0u8; LONGEST];
     let mut chunk = [0u8; CHUNK];
     let mut begun = Begun {
@@ -352,7 +423,7 @@ fn main() {
     };
     let mut turns: u64 = 18446744073709551615;
     while 0 < turns {
-        begun = read_once(&mut line, &mut chunk, begun);
+        begun = read_once(&rt, &mut line, &mut chunk, begun);
         let progress = begun.progress;
         if !progress.going {
             return;
