@@ -167,7 +167,8 @@ export work strict
 version=$(sed -n 's/^#define LOPRESNIK_VERSION //p' hosts/c/lopresnik.h)
 
 if [ -z "${LOPRESNIK_ARCHIVE-}" ]; then
-  step "the archive is made" hosts/archive.sh lopresnik || finish
+  # (it may prove every crate below, where rt ci has not)
+  most_seconds=7200 step "the archive is made" hosts/archive.sh lopresnik || finish
   export LOPRESNIK_ARCHIVE="$PWD/target/staticlib"
 fi
 step "the header, as C11 and as C++17" bash -o pipefail -c run_header
