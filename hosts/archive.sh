@@ -1,88 +1,49 @@
 #!/usr/bin/env bash
-# hosts/archive.sh NAME: proves the crate NAME and writes target/staticlib/libNAME.a for this machine.
-# `rt staticlib` compiles for x86-64 only. On an aarch64 machine the same LLVM module is compiled for
-# aarch64 instead: rt is given a shadow of its kit, made of links, in which the compiler is this script.
+# hosts/archive.sh NAME: proves the crate NAME_c, which exports the library NAME to C, and writes target/staticlib/libNAME.a.
+# Where `rt ci` was the last to prove the crates below, the archive is built over the libraries that it left in their out/;
+# else by `rt lib`, which first proves what is not proved yet. The toolchain runs on x86-64 and compiles for it alone.
 set -eu
 
-# As the compiler of the shadow kit: turns the module to be compiled into one for aarch64, and compiles that.
-# An exported function that answers a large struct is written for the calling convention of x86-64: the
-# caller's place for it is the first argument and is answered again. Marked sret, it is right for either.
-compile_for_aarch64() {
-  local clang=$1 module='' object='' work
-  shift
-  while [ $# -gt 0 ]; do
-    case $1 in
-      -o) object=$2; shift ;;
-      *.bc) module=$1 ;;
-    esac
-    shift
-  done
-  if [ -z "$module" ] || [ -z "$object" ]; then
-    echo "archive.sh: rt did not ask for a module to be compiled" >&2
-    return 1
-  fi
-  work=$(mktemp -d)
-  "$clang" --target=x86_64-unknown-linux-gnu -x ir "$module" -S -emit-llvm -Xclang -disable-llvm-passes -o "$work/given.ll" &&
-    sed -e '/^target datalayout = /d' \
-      -e 's/^target triple = .*/target triple = "aarch64-unknown-linux-gnu"/' \
-      -e 's/ "target-cpu"="x86-64"//' \
-      -e '/^define noundef ptr @[A-Za-z0-9_]*(ptr noundef %a0/,/^}/ {
-            s/^define noundef ptr \(@[A-Za-z0-9_]*(ptr noundef\) %a0/define void \1 sret(i8) align 8 %a0/
-            s/^  ret ptr %a0$/  ret void/
-          }' "$work/given.ll" >"$work/turned.ll" &&
-    ! grep -E '^define [a-z ]*ptr @[A-Za-z0-9_]+\(' "$work/turned.ll" >&2 &&
-    "$clang" --target=aarch64-unknown-linux-gnu -O3 -ffunction-sections -fdata-sections -fPIC \
-      -mllvm -trap-unreachable -mllvm -no-trap-after-noreturn --no-default-config \
-      -c -x ir "$work/turned.ll" -o "$object"
-  local status=$?
-  rm -rf "$work"
-  return "$status"
-}
-
-# A folder of links to the kit, but for the compiler.
-make_shadow_kit() {
-  local kit=$1 shadow=$2 entry
-  mkdir -p "$shadow/on/aarch64/toolchain/bin"
-  for entry in "$kit"/*; do
-    [ "${entry##*/}" = on ] || ln -s "$entry" "$shadow/"
-  done
-  for entry in "$kit"/on/aarch64/*; do
-    [ "${entry##*/}" = toolchain ] || ln -s "$entry" "$shadow/on/aarch64/"
-  done
-  for entry in "$kit"/on/aarch64/toolchain/*; do
-    [ "${entry##*/}" = bin ] || ln -s "$(readlink -f "$entry")" "$shadow/on/aarch64/toolchain/"
-  done
-  for entry in "$kit"/on/aarch64/toolchain/bin/*; do
-    [ "${entry##*/}" = clang ] || ln -s "$entry" "$shadow/on/aarch64/toolchain/bin/"
-  done
-  printf '#!/bin/sh\nexec "%s" --compile "%s" "$@"\n' "$here/archive.sh" \
-    "$kit/on/aarch64/toolchain/bin/clang" >"$shadow/on/aarch64/toolchain/bin/clang"
-  chmod +x "$shadow/on/aarch64/toolchain/bin/clang"
-}
-
-if [ "${1-}" = --compile ]; then
-  shift
-  compile_for_aarch64 "$@"
-  exit
-fi
 if [ $# -ne 1 ]; then
   echo "usage: hosts/archive.sh NAME" >&2
   exit 2
 fi
+cd "$(dirname "$0")/.."
+crate=$1_c
+if [ ! -f "crates/$crate/src/lib.rt" ]; then
+  echo "archive.sh: no crate $crate exports $1" >&2
+  exit 2
+fi
+if [ "$(uname -m)" != x86_64 ]; then
+  echo "archive.sh: the toolchain compiles for x86-64 alone" >&2
+  exit 2
+fi
+root=$PWD
+made=$root/crates/$crate/out/lib$crate.a
+read -ra below < <(sed -n "s/#.*//;s/^$crate[ \t][^:]*://p" crates.txt)
 
-here=$(cd "$(dirname "$0")" && pwd -P)
-case $(uname -m) in
-  x86_64) rt staticlib "$1" ;;
-  aarch64)
-    rt_path=$(readlink -f "$(command -v rt)")
-    kit=${RATTLE_HOME:-$(dirname "$(dirname "$rt_path")")}
-    shadow=$(mktemp -d)
-    trap 'rm -rf "$shadow"' EXIT
-    make_shadow_kit "$kit" "$shadow"
-    RATTLE_HOME=$shadow rt staticlib "$1"
-    ;;
-  *)
-    echo "archive.sh: neither x86-64 nor aarch64" >&2
-    exit 2
-    ;;
-esac
+# The library of this crate is one that rt ci left: with no stamp, and newer than all that it is made from.
+is_left_by_ci() {
+  local library=crates/$1/out/rlib/$1.rlib newer
+  [ -f "$library/format" ] && [ ! -e "crates/$1/out/rlib/stamp" ] &&
+    newer=$(find crates.txt "crates/$1" -name out -prune -o -type f -newer "$library" -print -quit) && [ -z "$newer" ]
+}
+
+# Proves the exports over those libraries, and compiles them with the code that they reach.
+build_over_them() {
+  local kit words it
+  for it in "${below[@]}"; do is_left_by_ci "$it" || return; done
+  kit=$(dirname "$(dirname "$(readlink -f "$(command -v rt)")")")
+  words=(--crate-name "$crate" src/lib.rt --crate-type staticlib)
+  for it in core std; do words+=(--extern "$it=$kit/rlibs/$it.rlib"); done
+  for it in "${below[@]}"; do words+=(--extern "$it=$root/crates/$it/out/rlib/$it.rlib" -L "dependency=$root/crates/$it/out/rlib"); done
+  words+=(-L "dependency=$kit/rlibs" --antt-project "$kit/rattle/logic/antt-project.json" --logic-built "$kit/logic_built")
+  words+=(--links "$crate=" --jobs 2 --toolchain "$kit/toolchain" --backend llvm -o "$made")
+  mkdir -p "crates/$crate/out"
+  (cd "crates/$crate" && "$kit/bin/rattle" build "${words[@]}")
+}
+
+rm -f "$made"
+build_over_them || (cd "crates/$crate" && rt lib)
+mkdir -p target/staticlib
+cp "$made" "target/staticlib/lib$1.a"

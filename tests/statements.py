@@ -27,7 +27,7 @@ TO_READ, INNER, ENTRIES = 'Files to read', 'Inner files', 'Entry points'
 # Words in backticks that name nothing of the sources.
 PLAIN = {'rt ci', 'rt check', '.ci/run', 'specs/', 'proofs/', 'src/', 'must-fail/', 'requires', 'ensures', 'end', 'stop', 'schedule', 'set-up'}
 # Crates whose public functions are all entry points.
-WHOLE = ['calls', 'lent', 'lopresnik', 'tickets', 'tickets_open', 'windows']
+WHOLE = ['calls', 'lent', 'lopresnik', 'lopresnik_c', 'tickets', 'tickets_open', 'windows']
 
 NAME = r'[^\s`./:{},]+'
 NAMES = rf'(?:{NAME}|\{{{NAME}(?:, {NAME})*\}})'
@@ -108,9 +108,9 @@ def functions(crate):
     found, types = {}, set()
     for path in sorted(glob.glob(f'{TOP}/crates/{crate}/src/*.rt')):
         text = read(os.path.relpath(path, TOP))
-        for match in re.finditer(r'^(pub )?(?:extern "C" )?fn (\w+)(.*?)^\{', text, re.M | re.S):
+        for match in re.finditer(r'^ *(pub )?(?:extern "C" )?fn (\w+)(.*?)\{$', text, re.M | re.S):
             found[match.group(2)] = (bool(match.group(1)), match.group(3))
-        types.update(re.findall(r'^(?:pub )?(?:struct|enum|const) (\w+)', text, re.M))
+        types.update(re.findall(r'^(?:pub )?(?:struct|enum|trait|const) (\w+)', text, re.M))
     return found, types
 
 
@@ -213,7 +213,7 @@ def check_lists(text):
 
 def imported(path):
     """What a file imports from specs/: the file, and the names, none where all of it is imported."""
-    for crate, name, names in re.findall(r'^use Rattle·(\w+?)(?:·specs\.specs|\.specs)\.([A-Z]\w*)(?:\.\{([^}]*)\})?', read(path), re.M):
+    for crate, name, names in re.findall(r'^use Rattle\.(\w+)\.specs\.([A-Z]\w*)(?:\.\{([^}]*)\})?', read(path), re.M):
         yield f'{crate}/specs/{name}', several(names) if names else []
 
 

@@ -1,15 +1,14 @@
 #!/usr/bin/env bash
-# What users meet besides the programs: tools/run (statuses, signals, standard error), tools/timeline, ./example. The real
+# What users meet besides the programs: tools/run (statuses, signals, standard error), tools/timeline, ./example and tools/build. The real
 # programs are used where they can show it, else shell scripts in their place, in a root of their own with a stub for rt.
-# Needs the built programs (rt check). Its last line is `N passed, M failed`.
+# Needs the built programs (rt ci or tools/build). Its last line is `N passed, M failed`.
 set -u
 cd "$(dirname "$0")/.." || exit 1
 . tests/counting.sh
 
 root=$work/root
-bin=$root/target/bin
 real_path=$PATH
-mkdir -p "$bin" "$work/stubs" "$work/few" "$work/tmp"
+mkdir -p "$root" "$work/stubs" "$work/elsewhere" "$work/few" "$work/tmp"
 
 # Tries a command for ten seconds until it succeeds.
 in_time() {
@@ -28,6 +27,11 @@ gone() {
 # Writes a shell script from standard input.
 script() {
   { echo '#!/bin/sh' && cat; } >"$1" && chmod +x "$1"
+}
+
+# Writes a program of that root from standard input.
+program() {
+  mkdir -p "$root/crates/$1/out" && script "$root/crates/$1/out/$1"
 }
 
 # Sends a signal to a process that writes the ids of what it started to $work/pid: all of them end, it with the signal's status.
@@ -52,36 +56,34 @@ there() {
   RATTLE_HOME=$work/kit "$root/$1" "${@:2}"
 }
 
-# ---- a root with scripts as programs, and a kit whose emulator runs them as they are
+# ---- a root with scripts as programs, and an emulator that runs them as they are
 
 cp -R example tools examples "$root"
-for machine in "$(uname -m)" other; do
-  mkdir -p "$work/kit/on/$machine/toolchain/bin"
-  script "$work/kit/on/$machine/toolchain/bin/qemu-x86_64" <<'END'
+script "$work/elsewhere/uname" <<<'echo other'
+script "$work/elsewhere/qemu-x86_64" <<'END'
 [ "$2" = --library-path ] || exit 99
 shift 3
 exec "$@"
 END
-done
-script "$bin/copy" <<'END'
+program copy <<'END'
 exec cat
 END
-script "$bin/take_line" <<'END'
+program take_line <<'END'
 read -r line
 printf '%s\n' "$line"
 END
-script "$bin/say_bytes" <<'END'
+program say_bytes <<'END'
 exec cat "$1" >&2
 END
-script "$bin/say_and_wait" <<'END'
+program say_and_wait <<'END'
 echo first >&2
 read -r line
 echo "then $line" >&2
 END
-script "$bin/fall" <<'END'
+program fall <<'END'
 kill -s "$1" $$
 END
-script "$bin/wait" <<'END'
+program wait <<'END'
 echo $$ >"$1.new"
 mv "$1.new" "$1"
 exec sleep 1000
@@ -158,17 +160,11 @@ misuse_is_told() {
   [ $? -eq 127 ] && grep -q 'not built' "$work/said"
 }
 
-# On another processor the emulator of the kit runs the program, with the same statuses.
+# On another processor the emulator runs the program, with the same statuses.
 runs_elsewhere() {
-  script "$work/stubs/uname" <<<'echo other'
-  (PATH=$work/stubs:$PATH && passes_bytes_on "$work/bytes" && ends_by_signal SEGV && passes_signal_on TERM && copies_input)
-  local status=$?
-  rm "$work/stubs/uname"
-  mv "$work/kit/on/other" "$work/kit/on/none"
-  (script "$work/stubs/uname" <<<'echo other' && PATH=$work/stubs:$PATH && ! copies_input 2>/dev/null)
-  status=$((status + $?))
-  rm "$work/stubs/uname"
-  [ "$status" -eq 0 ]
+  (PATH=$work/elsewhere:$PATH && passes_bytes_on "$work/bytes" && ends_by_signal SEGV && passes_signal_on TERM && copies_input) || return
+  mv "$work/elsewhere/qemu-x86_64" "$work/elsewhere/none"
+  (PATH=$work/elsewhere:$PATH && ! copies_input 2>/dev/null)
 }
 
 { printf '\0\377\\n\n' && head -c 5000000 /dev/urandom; } >"$work/bytes"
@@ -224,8 +220,8 @@ timeline_tells() {
 
 # A listing that the calls do not allow: two nodes due where one is held.
 timeline_disagrees() {
-  script "$bin/schedule" <<<"sed 's/^9 11 0 1\$/9 11 0 2/' '$PWD/examples/listing/lines.txt'"
-  script "$bin/read_schedule" <<<"grep -v '^#' '$PWD/examples/listing/calls.txt'"
+  program schedule <<<"sed 's/^9 11 0 1\$/9 11 0 2/' '$PWD/examples/listing/lines.txt'"
+  program read_schedule <<<"grep -v '^#' '$PWD/examples/listing/calls.txt'"
   there tools/timeline examples/listing/calls.schedule >"$work/wrote" 2>"$work/said"
   [ $? -eq 1 ] && grep -q '^timeline: call 9 answers 2 for the nodes made due' "$work/said"
 }
@@ -251,13 +247,12 @@ expect "the timeline of a text with a fault" timeline_tells 'capacity 64 start 0
 expect "the timeline of answers that cannot be" timeline_disagrees
 expect "the timeline of 256 nodes" timeline_is_narrow
 
-# ---- ./example, with a stub for rt in a root of its own
+# ---- ./example and tools/build, with a stub for rt in a root of its own
 
-# What rt would print comes from $RT_SAYS; between the first line and the rest it may wait for a line from $RT_WAITS, or for ever with a child.
+# What rt would print comes from $RT_SAYS; behind its first $RT_HEAD lines it may wait for a line from $RT_WAITS, or for ever with a child.
 script "$work/stubs/rt" <<'END'
-[ "$*" = "check schedule" ] || exit 2
-head -n 1 "$RT_SAYS"
-[ -z "${RT_LOGS-}" ] || { sleep 0.1; mkdir -p target/log; : >target/log/lines.say; echo done >target/log/sizes.say; }
+[ "$* in ${PWD##*/}" = "run in schedule" ] || exit 2
+head -n "${RT_HEAD-2}" "$RT_SAYS" >&2
 [ -z "${RT_WAITS-}" ] || read -r line <"$RT_WAITS"
 if [ -n "${RT_CHILD-}" ]; then
   mktemp >/dev/null
@@ -266,23 +261,28 @@ if [ -n "${RT_CHILD-}" ]; then
   mv "$RT_CHILD.new" "$RT_CHILD"
   wait
 fi
-tail -n +2 "$RT_SAYS"
-! grep -q NOT "$RT_SAYS"
+tail -n +"$((${RT_HEAD-2} + 1))" "$RT_SAYS" >&2
+echo thrown away
+! grep -q 'did not build' "$RT_SAYS"
 END
-script "$bin/schedule" <<<"exec cat '$PWD/examples/listing/lines.txt'"
+program schedule <<<"exec cat '$PWD/examples/listing/lines.txt'"
+mkdir -p "$root/crates/schedule/src"
 cat >"$root/crates.txt" <<'END'
 # four of these are needed
 lists:
 sizes: lists # no other
 apart: lists sizes
 lines: lists sizes io
-schedule: lines sizes io libc
+schedule: lines sizes io
 END
-printf 'rt: %s proved (1 s)\n' lists sizes lines schedule >"$work/all_new"
-printf 'rt: %s proved (unchanged since it was last proved)\n' lists sizes lines schedule >"$work/all_old"
-sed 's/lists proved (1 s)/lists NOT PROVED (exit 1, 1 s)/' "$work/all_new" >"$work/not_proved"
+for crate in lists sizes lines schedule; do
+  printf 'rt: chose --jobs 2 for %s\nlogic=proved functions=1 native=nat\n' "$crate"
+done >"$work/all_new"
+echo 'rt: running out/schedule; to give it other input, run that file yourself' >>"$work/all_new"
+printf 'rt: chose --jobs 2 for lists\nlogic=not-proved\nrt: the library lists did not build, so nothing above it was checked\n' >"$work/not_proved"
 
 stub_example() {
+  touch "$root/crates/schedule/src/main.rt"
   env PATH="$work/stubs:$real_path" TMPDIR="$work/tmp" RATTLE_HOME="$work/kit" RT_SAYS="$work/$1" "${@:2}" "$root/example" >"$work/wrote" 2>"$work/said"
 }
 
@@ -296,20 +296,20 @@ example_tells() {
   rm -f "$work/in" && mkfifo "$work/in"
   stub_example all_new RT_WAITS="$work/in" &
   runner=$!
-  in_time grep -q '^example: proved lists: 1 of 4 crates, 0 min [0-9]* s$' "$work/said"
+  in_time grep -q '^build: proved lists: 1 of 4 crates, 0 min [0-9]* s$' "$work/said"
   came=$?
   echo go >"$work/in"
-  wait "$runner" && [ "$came" -eq 0 ] && grep -q '^example: proved schedule: 4 of 4 crates, ' "$work/said" &&
+  wait "$runner" && [ "$came" -eq 0 ] && grep -q '^build: proved schedule: 4 of 4 crates, ' "$work/said" &&
     [ "$(wc -l <"$work/said")" -eq 4 ] && cmp "$work/wrote" examples/listing/lines.txt && nothing_left
 }
 
-# A crate that takes long is named while it is being proved; one whose log is whole is not.
+# A crate that takes long is named while it is being proved.
 example_names() {
   local runner came
   rm -f "$work/in" && mkfifo "$work/in"
-  stub_example all_new RT_WAITS="$work/in" RT_LOGS=yes &
+  stub_example all_new RT_WAITS="$work/in" RT_HEAD=5 &
   runner=$!
-  in_time grep -q '^example: proving lines: 1 of 4 crates are proved, 0 min [0-9]* s$' "$work/said"
+  in_time grep -q '^build: proving lines: 2 of 4 crates are proved, 0 min [0-9]* s$' "$work/said"
   came=$?
   echo go >"$work/in"
   wait "$runner" && [ "$came" -eq 0 ] && nothing_left
@@ -317,23 +317,30 @@ example_names() {
 
 # On a terminal one line is written anew, and is gone before the program's lines come.
 example_on_terminal() {
+  touch "$root/crates/schedule/src/main.rt"
   PATH=$work/stubs:$real_path TMPDIR=$work/tmp RATTLE_HOME=$work/kit RT_SAYS=$work/all_new python3 -c 'import pty, sys; pty.spawn(sys.argv[1:])' \
     "$root/example" </dev/null >"$work/wrote"
-  tr '\r' '\n' <"$work/wrote" | grep -q 'example: proved schedule: 4 of 4 crates' &&
+  tr '\r' '\n' <"$work/wrote" | grep -q 'build: proved schedule: 4 of 4 crates' &&
     tail -n +2 "$work/wrote" | tr -d '\r' | cmp - <(tail -n +2 examples/listing/lines.txt)
 }
 
+# A program that is newer than all sources is run as it is: rt is not asked.
 example_is_quiet() {
-  stub_example all_old A=b && [ ! -s "$work/said" ] && cmp "$work/wrote" examples/listing/lines.txt && nothing_left
+  touch "$root/crates.txt" "$root/crates/schedule/src/main.rt"
+  sleep 0.01
+  touch "$root/crates/schedule/out/schedule"
+  PATH=$work/stubs:$real_path TMPDIR=$work/tmp RATTLE_HOME=$work/kit RT_SAYS=$work/not_proved "$root/example" >"$work/wrote" 2>"$work/said" &&
+    [ ! -s "$work/said" ] && cmp "$work/wrote" examples/listing/lines.txt && nothing_left
 }
 
 example_not_proved() {
   stub_example not_proved A=b
-  [ $? -eq 1 ] && [ ! -s "$work/wrote" ] && grep -q '^rt: lists NOT PROVED' "$work/said" && nothing_left
+  [ $? -eq 1 ] && [ ! -s "$work/wrote" ] && grep -q '^rt: the library lists did not build' "$work/said" && nothing_left
 }
 
 example_without_rt() {
-  ln -sf "$(command -v dirname)" "$work/few/dirname"
+  ln -sf "$(command -v dirname)" "$(command -v find)" "$BASH" "$work/few/"
+  touch "$root/crates/schedule/src/main.rt"
   PATH=$work/few "$BASH" "$root/example" >"$work/wrote" 2>"$work/said"
   [ $? -eq 2 ] && grep -q 'no rt on the PATH' "$work/said"
 }
@@ -341,6 +348,7 @@ example_without_rt() {
 # Ended from outside: rt and its child are gone, and so are all temporary files.
 example_ends() {
   rm -f "$work/pid"
+  touch "$root/crates/schedule/src/main.rt"
   PATH=$work/stubs:$real_path TMPDIR=$work/tmp RATTLE_HOME=$work/kit RT_SAYS=$work/all_new RT_CHILD=$work/pid attended "$root/example" >"$work/wrote" 2>"$work/said" &
   end_by "$1" $! && nothing_left
 }
@@ -349,7 +357,14 @@ example_ends() {
 example_proves_nothing() {
   touch "$work/mark"
   ./example clocks >"$work/wrote" 2>"$work/said" && [ ! -s "$work/said" ] &&
-    [ -z "$(find target/rlib target/bin -newer "$work/mark")" ] && cmp "$work/wrote" examples/clocks/lines.txt
+    [ -z "$(find crates/*/out -newer "$work/mark")" ] && cmp "$work/wrote" examples/clocks/lines.txt
+}
+
+build_is_misused() {
+  tools/build 2>"$work/said"
+  [ $? -eq 2 ] && grep -q usage "$work/said" || return
+  tools/build no_such_program 2>"$work/said"
+  [ $? -eq 2 ] && grep -q 'no program no_such_program' "$work/said"
 }
 
 expect "example: how far the proof is" example_tells
@@ -362,6 +377,7 @@ for signal in INT TERM HUP; do
   expect "example: ended by $signal" example_ends "$signal"
 done
 expect "example: everything proved" example_proves_nothing
+expect "tools/build: wrong use" build_is_misused
 
 echo "$passed passed, $failed failed"
 [ "$failed" -eq 0 ]

@@ -1,5 +1,6 @@
-// The functions of the static library: each lends everything on to the lent form of its call, and answers in plain numbers.
+// The calls as a host makes them: each lends everything on to the lent form of its call, and answers in plain numbers. crates/lopresnik_c exports them to C.
 #![tactic(auto)]
+
 mod writing;
 
 ghost use Rattle.std.specs.Prelude.{◌≡◌, true, false, [], length};
@@ -21,6 +22,7 @@ use model::{
 use rows::wide;
 use sizes::{Node, Version};
 use tables::{Coordinator, Ticket};
+pub use writing::{lopresnik_write_call, lopresnik_write_header};
 
 // The version of the interface: it rises when a function, a struct or the layout of the tables changes.
 const INTERFACE: u32 = 1;
@@ -172,16 +174,14 @@ fn run_numbers(run: Run) -> Ran
 }
 
 // The version of the interface, so that a host can see that its declarations are of the same one.
-#[unsafe(no_mangle)]
-pub extern "C" fn lopresnik_version() -> u32
+pub fn lopresnik_version() -> u32
     ensures { result ≡ interface }
 {
     INTERFACE
 }
 
 // Set-up: an empty map with no open range.
-#[unsafe(no_mangle)]
-pub extern "C" fn lopresnik_set_up(
+pub fn lopresnik_set_up(
     keys: &[u64],
     values: &[i64],
     rows: &mut [u32],
@@ -207,8 +207,7 @@ pub extern "C" fn lopresnik_set_up(
 }
 
 // Lookup: the value of the key.
-#[unsafe(no_mangle)]
-pub extern "C" fn lopresnik_lookup(
+pub fn lopresnik_lookup(
     keys: &[u64],
     values: &[i64],
     rows: &[u32],
@@ -224,8 +223,7 @@ pub extern "C" fn lopresnik_lookup(
 }
 
 // Insert: the key with its value; the coin makes its height.
-#[unsafe(no_mangle)]
-pub extern "C" fn lopresnik_insert(
+pub fn lopresnik_insert(
     keys: &mut [u64],
     values: &mut [i64],
     rows: &mut [u32],
@@ -253,8 +251,7 @@ pub extern "C" fn lopresnik_insert(
 }
 
 // Remove: the key's node becomes pending.
-#[unsafe(no_mangle)]
-pub extern "C" fn lopresnik_remove(
+pub fn lopresnik_remove(
     keys: &[u64],
     values: &[i64],
     rows: &mut [u32],
@@ -270,8 +267,7 @@ pub extern "C" fn lopresnik_remove(
 }
 
 // Hand over: a pending node is freed at once, or joins the list of the latest range.
-#[unsafe(no_mangle)]
-pub extern "C" fn lopresnik_hand_over(
+pub fn lopresnik_hand_over(
     keys: &[u64],
     values: &[i64],
     rows: &mut [u32],
@@ -295,8 +291,7 @@ pub extern "C" fn lopresnik_hand_over(
 }
 
 // Ceil: the nearest present key at or above.
-#[unsafe(no_mangle)]
-pub extern "C" fn lopresnik_ceil(
+pub fn lopresnik_ceil(
     keys: &[u64],
     values: &[i64],
     rows: &[u32],
@@ -312,8 +307,7 @@ pub extern "C" fn lopresnik_ceil(
 }
 
 // Floor: the nearest present key at or below.
-#[unsafe(no_mangle)]
-pub extern "C" fn lopresnik_floor(
+pub fn lopresnik_floor(
     keys: &[u64],
     values: &[i64],
     rows: &[u32],
@@ -329,8 +323,7 @@ pub extern "C" fn lopresnik_floor(
 }
 
 // Succ: the nearest present key above.
-#[unsafe(no_mangle)]
-pub extern "C" fn lopresnik_succ(
+pub fn lopresnik_succ(
     keys: &[u64],
     values: &[i64],
     rows: &[u32],
@@ -346,8 +339,7 @@ pub extern "C" fn lopresnik_succ(
 }
 
 // Pred: the nearest present key below.
-#[unsafe(no_mangle)]
-pub extern "C" fn lopresnik_pred(
+pub fn lopresnik_pred(
     keys: &[u64],
     values: &[i64],
     rows: &[u32],
@@ -363,8 +355,7 @@ pub extern "C" fn lopresnik_pred(
 }
 
 // Fast range: all pairs within the bounds, where they are at most 64 and both buffers have places for them.
-#[unsafe(no_mangle)]
-pub extern "C" fn lopresnik_fast_range(
+pub fn lopresnik_fast_range(
     keys: &[u64],
     values: &[i64],
     rows: &[u32],
@@ -394,8 +385,7 @@ pub extern "C" fn lopresnik_fast_range(
 }
 
 // Open: a range with these bounds; the answer is its version.
-#[unsafe(no_mangle)]
-pub extern "C" fn lopresnik_open_range(
+pub fn lopresnik_open_range(
     keys: &[u64],
     values: &[i64],
     rows: &[u32],
@@ -412,8 +402,7 @@ pub extern "C" fn lopresnik_open_range(
 }
 
 // Step: the next pairs of the open range of that version, as many as both buffers have places for.
-#[unsafe(no_mangle)]
-pub extern "C" fn lopresnik_step_range(
+pub fn lopresnik_step_range(
     keys: &[u64],
     values: &[i64],
     rows: &[u32],
@@ -441,8 +430,7 @@ pub extern "C" fn lopresnik_step_range(
 }
 
 // Close: the open range of that version, at any moment.
-#[unsafe(no_mangle)]
-pub extern "C" fn lopresnik_close_range(
+pub fn lopresnik_close_range(
     keys: &[u64],
     values: &[i64],
     rows: &[u32],
@@ -466,8 +454,7 @@ pub extern "C" fn lopresnik_close_range(
 }
 
 // Sweep: the first due node is freed.
-#[unsafe(no_mangle)]
-pub extern "C" fn lopresnik_sweep(
+pub fn lopresnik_sweep(
     keys: &[u64],
     values: &[i64],
     rows: &mut [u32],
@@ -482,8 +469,7 @@ pub extern "C" fn lopresnik_sweep(
 }
 
 // Tally: present nodes, held nodes, free nodes.
-#[unsafe(no_mangle)]
-pub extern "C" fn lopresnik_tally(
+pub fn lopresnik_tally(
     keys: &[u64],
     values: &[i64],
     rows: &[u32],
@@ -498,8 +484,7 @@ pub extern "C" fn lopresnik_tally(
 }
 
 // Makes the calls of a list, taken as schedule bytes, one after another; soundness is tested once.
-#[unsafe(no_mangle)]
-pub extern "C" fn lopresnik_run_list(
+pub fn lopresnik_run_list(
     keys: &mut [u64],
     values: &mut [i64],
     rows: &mut [u32],

@@ -118,8 +118,7 @@ fn length_of(wrote: Wrote) -> usize
 }
 
 // Writes the call of this code with these numbers at the front of a lent buffer and answers its length: 0 where there is no such call, or where the buffer is too short.
-#[unsafe(no_mangle)]
-pub extern "C" fn lopresnik_write_call(
+pub fn lopresnik_write_call(
     buffer: &mut [u8],
     code: u32,
     first: i64,
@@ -139,8 +138,7 @@ pub extern "C" fn lopresnik_write_call(
 }
 
 // Writes a header at the front of a lent buffer and answers its length: 0 where the buffer is too short.
-#[unsafe(no_mangle)]
-pub extern "C" fn lopresnik_write_header(buffer: &mut [u8], capacity: u32, start: u32) -> usize
+pub fn lopresnik_write_header(buffer: &mut [u8], capacity: u32, start: u32) -> usize
     ensures { Gives (Writes (bytes_of (header_of (headed capacity start))) buffer.old buffer.new) written result }
 {
     let header = Header {
