@@ -1,6 +1,6 @@
 -- An exported function is determined by the input: what it leaves and the numbers it answers, since its lent form is.
 -- Assumes nothing.
-use mathlib.Core.Path.{◌≡◌, sym, ap, ◌∙◌}
+use mathlib.Core.Path.{sym, ap, ◌∙◌}
 use Rattle.lent.proofs.Once.{Determined}
 use Rattle.lopresnik.specs.Exports.{Gives}
 

@@ -1,6 +1,5 @@
 -- `lopresnik::run_numbers` meets its contract: the two numbers of the end, and the counts as they are.
 use mathlib.Core.Path.{refl}
-use borrow.Author.Rules.{rules}
 use Rattle.lopresnik.proofs.run_numbers.Goals as goal
 
 pub returns : goal.returns

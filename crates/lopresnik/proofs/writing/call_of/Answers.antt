@@ -1,7 +1,6 @@
 -- `lopresnik::writing::call_of` meets its contract.
 use mathlib.Core.Path.{refl, ap, ap₂, ◌∙◌}
 use native.Mathlib.Omega.{arith}
-use borrow.Author.Rules.{rules}
 use Rattle.transactions.specs.declared.Call.TheVariants.{Lookup, Insert, Remove, Ceil, Floor, Succ, Pred, Fast, Open}
 use Rattle.transactions.proofs.Operating.{last_code}
 use Rattle.lopresnik.specs.declared.writing.Asked.{Asked}

@@ -1,5 +1,4 @@
 -- `lopresnik::writing::close` meets its contract.
-use borrow.Author.Rules.{rules}
 use Rattle.lopresnik.specs.Written.{closes}
 use Rattle.lopresnik.proofs.Asking.{told}
 use Rattle.lopresnik.proofs.writing.close.Goals as goal

@@ -1,5 +1,4 @@
 -- `lopresnik::writing::hand_over` meets its contract.
-use borrow.Author.Rules.{rules}
 use Rattle.lopresnik.specs.Written.{hands_over}
 use Rattle.lopresnik.proofs.Asking.{told}
 use Rattle.lopresnik.proofs.writing.hand_over.Goals as goal

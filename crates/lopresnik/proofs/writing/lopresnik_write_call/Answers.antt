@@ -1,6 +1,5 @@
 -- `lopresnik::writing::lopresnik_write_call` meets its contract.
 use mathlib.Core.Path.{refl}
-use borrow.Author.Rules.{rules}
 use Rattle.lopresnik.proofs.Asking.{written_as}
 use Rattle.lopresnik.proofs.writing.lopresnik_write_call.Goals as goal
 

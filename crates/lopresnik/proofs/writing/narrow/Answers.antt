@@ -1,7 +1,6 @@
 -- `lopresnik::writing::narrow` meets its contract.
 use mathlib.Core.Path.{sym, ap, ◌∙◌}
 use native.Mathlib.Omega.{arith}
-use borrow.Author.Rules.{rules}
 use Rattle.lists.proofs.Signs.{neg, nonneg}
 use Rattle.lopresnik.specs.Written.{narrowed}
 use Rattle.lopresnik.proofs.Asking.{small_of, not_small}

@@ -1,6 +1,5 @@
 -- `lopresnik::writing::step` meets its contract.
 use mathlib.Core.Path.{ap, ◌∙◌}
-use borrow.Author.Rules.{rules}
 use Rattle.lopresnik.specs.declared.writing.Small.{Small}
 use Rattle.lopresnik.specs.Written.{narrowed, steps}
 use Rattle.lopresnik.proofs.Asking.{held, told}

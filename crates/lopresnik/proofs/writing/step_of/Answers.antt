@@ -1,5 +1,4 @@
 -- `lopresnik::writing::step_of` meets its contract.
-use borrow.Author.Rules.{rules}
 use Rattle.lopresnik.specs.declared.writing.Small.{Small}
 use Rattle.lopresnik.specs.Written.{steps}
 use Rattle.lopresnik.proofs.Asking.{told}
