@@ -1,6 +1,0 @@
-pub mod Holds
-pub mod Filters
-pub mod Members
-pub mod Tabs
-pub mod Tests
-pub mod Buffers
