@@ -10,6 +10,8 @@ ghost use Rattle.schedule.specs.Turns.{Starts, Ready, Rooms, input_size, last_mo
 use batch::End;
 use model::SetUp;
 use sizes::{Sized, Version};
+use std::io::{self, ErrorKind};
+use std::process::ExitCode;
 use tables::{Coordinator, Ticket};
 use transactions::{Header, HeaderReading};
 use windows::{Fetched, Window};
@@ -30,6 +32,9 @@ const CELLS: usize = 2560;
 const PAIRS: usize = 3584;
 
 const OUTPUT: usize = 262144;
+
+// The status of a program whose reader left, as a shell tells it of one that the signal PIPE ended.
+const READER_LEFT: u8 = 141;
 
 // ---- set-up
 
@@ -385,15 +390,11 @@ fn complain(rt: &HostRuntime, text: &[u8]) {
     let _ = rt.stderr().write_all(text);
 }
 
-// Prints the first bytes of a buffer and answers whether all of them were written.
-fn print(rt: &HostRuntime, out: &[u8], end: usize) -> bool
+// Prints the first bytes of a buffer.
+fn print(rt: &HostRuntime, out: &[u8], end: usize) -> io::Result<()>
     requires { end ≤ length out.now }
 {
-    if rt.stdout().write_all(&out[..end]).is_ok() {
-        return true;
-    }
-    complain(rt, b"schedule: writing standard output failed\n");
-    false
+    rt.stdout().write_all(&out[..end])
 }
 
 // What is held at the next turn, once more was read where that comes first.
@@ -411,7 +412,7 @@ fn read_on(rt: &HostRuntime, input: &mut [u8], window: Window, next: Next) -> Fe
     }
 }
 
-// Makes turn after turn, prints what each lays down, and reads on.
+// Makes turn after turn, prints what each lays down, and reads on, until the run is over or a write fails.
 fn run(
     rt: &HostRuntime,
     keys: &mut [u64],
@@ -423,7 +424,7 @@ fn run(
     out_keys: &mut [i64],
     out_values: &mut [i64],
     out: &mut [u8],
-)
+) -> io::Result<()>
     requires { Whole (memory_of keys.old values.old rows.old buckets.old) × Rooms (length input.old) (length answers.old) (length out_keys.old) (length out_values.old) (length out.old) }
 {
     let mut session = waiting();
@@ -431,20 +432,27 @@ fn run(
         let turned = turn(
             keys, values, rows, buckets, session, input, answers, out_keys, out_values, out,
         );
-        if !print(rt, out, turned.length) {
-            return;
-        }
+        print(rt, out, turned.length)?;
         session = turned.session;
         let next = turned.next;
         let Fetched::Held(window) = read_on(rt, input, session.window, next) else {
-            return;
+            return Ok(());
         };
         session.window = window;
     }
 }
 
+// How the program ends where a write failed: it says so, but not to a reader that has left.
+fn end_of(rt: &HostRuntime, error: io::Error) -> ExitCode {
+    if error.kind() == ErrorKind::BrokenPipe {
+        return ExitCode::from(READER_LEFT);
+    }
+    complain(rt, b"schedule: writing standard output failed\n");
+    ExitCode::SUCCESS
+}
+
 // Lends the memory for the tables, which is that of capacity 256, and the room for one batch at a time.
-fn main(rt: HostRuntime) {
+fn main(rt: HostRuntime) -> ExitCode {
     let mut keys = [0u64; NODES];
     let mut values = [0i64; NODES];
     let mut rows = [0u32; ROWS];
@@ -454,7 +462,7 @@ fn main(rt: HostRuntime) {
     let mut out_keys = [0i64; PAIRS];
     let mut out_values = [0i64; PAIRS];
     let mut out = [0u8; OUTPUT];
-    run(
+    let ran = run(
         &rt,
         &mut keys,
         &mut values,
@@ -466,4 +474,8 @@ fn main(rt: HostRuntime) {
         &mut out_values,
         &mut out,
     );
+    match ran {
+        Ok(()) => ExitCode::SUCCESS,
+        Err(error) => end_of(&rt, error),
+    }
 }

@@ -4,12 +4,12 @@ use Rattle.windows.specs.Windows.{left_of}
 use Rattle.schedule.specs.Turns.{Ready}
 use Rattle.schedule.proofs.run.Given as goal
 
-abbrev pub invariant-loop-turned : goal.invariant-loop-turned
-invariant-loop-turned l =
+abbrev pub invariant-loop-session : goal.invariant-loop-session
+invariant-loop-session l =
     Ready l.session
     × (length l.keys ≡ length l.initial.keys) × (length l.values ≡ length l.initial.values) × (length l.rows ≡ length l.initial.rows) × (length l.buckets ≡ length l.initial.buckets)
     × (length l.input ≡ length l.initial.input) × (length l.answers ≡ length l.initial.answers) × (length l.out_keys ≡ length l.initial.out_keys) × (length l.out_values ≡ length l.initial.out_values)
     × (length l.out ≡ length l.initial.out)
 
-abbrev pub decreases-loop-turned : goal.decreases-loop-turned
-decreases-loop-turned l = left_of l.session.window
+abbrev pub decreases-loop-session : goal.decreases-loop-session
+decreases-loop-session l = left_of l.session.window
