@@ -2,17 +2,21 @@
 // error with its line and its word, and ends the program: behind what was written before it stands a byte at which the file stops.
 #![tactic(auto)]
 
-ghost use Rattle.std.specs.Prelude.{◌≡◌, ◌≤◌, length};
+ghost use Rattle.std.specs.Prelude.{◌≡◌, ◌≤◌, length, IfOk};
 
 use groups::Wrote;
 use notation::{Fault, Line};
-use std::io::{self, Read};
+use std::io::{self, ErrorKind, Read};
+use std::process::ExitCode;
 use transactions::{Call, Header};
 
 // The longest line that is taken, and how much is read at once.
 const LONGEST: usize = 4096;
 
 const CHUNK: usize = 4096;
+
+// The status of a program whose reader left, as a shell tells it of one that the signal PIPE ended.
+const READER_LEFT: u8 = 141;
 
 // How far the program is: the number of the next line, whether the header was read, and whether to go on.
 #[derive(Clone, Copy)]
@@ -57,14 +61,13 @@ fn fail(rt: &HostRuntime, what: &str, error: io::Error) {
     let _ = eprintln!(rt; "{what}: {words}");
 }
 
-// Writes the front of a buffer to standard output, as much as was put there.
-fn put_front(rt: &HostRuntime, buffer: &[u8], wrote: Wrote) -> io::Result<()> {
-    if let Wrote::Length(n) = wrote {
-        if n <= buffer.len() {
-            return rt.stdout().write_all(&buffer[..n]);
-        }
+// How the program ends where a write failed: it tells why, but says nothing to a reader that has left.
+fn end_of(rt: &HostRuntime, error: io::Error) -> ExitCode {
+    if error.kind() == ErrorKind::BrokenPipe {
+        return ExitCode::from(READER_LEFT);
     }
-    Err(io::Error::from_raw_os_error(0))
+    fail(rt, "standard output", error);
+    ExitCode::SUCCESS
 }
 
 fn stopped(progress: Progress) -> Progress {
@@ -76,18 +79,16 @@ fn stopped(progress: Progress) -> Progress {
 }
 
 // Stops, with a byte behind what was written at which the schedule file stops; nothing where no header was written.
-fn spoil(rt: &HostRuntime, progress: Progress) -> Progress {
+fn spoil(rt: &HostRuntime, progress: Progress) -> io::Result<Progress> {
     if progress.header {
         let last = [notation::fault_byte()];
-        if let Err(error) = rt.stdout().write_all(&last) {
-            fail(rt, "standard output", error);
-        }
+        rt.stdout().write_all(&last)?;
     }
-    stopped(progress)
+    Ok(stopped(progress))
 }
 
 // Tells what is wrong with the next line, and stops.
-fn refuse(rt: &HostRuntime, progress: Progress, why: &[u8]) -> Progress {
+fn refuse(rt: &HostRuntime, progress: Progress, why: &[u8]) -> io::Result<Progress> {
     say_line(rt, progress.line);
     say(rt, why);
     say(rt, b"\n");
@@ -118,7 +119,7 @@ fn refuse_word(
     line: &[u8],
     number: usize,
     why: &[u8],
-) -> Progress {
+) -> io::Result<Progress> {
     say_line(rt, progress.line);
     say_word(rt, line, number);
     say(rt, why);
@@ -133,7 +134,7 @@ fn refuse_behind(
     line: &[u8],
     number: usize,
     why: &[u8],
-) -> Progress {
+) -> io::Result<Progress> {
     say_line(rt, progress.line);
     if say_word(rt, line, number) {
         say(rt, b": ");
@@ -154,7 +155,7 @@ fn refuse_range(
     line: &[u8],
     number: usize,
     kind: u8,
-) -> Progress {
+) -> io::Result<Progress> {
     match kind {
         0 => refuse_word(
             rt,
@@ -181,7 +182,7 @@ fn refuse_range(
 }
 
 // Tells that the first word should be that of a header.
-fn refuse_first(rt: &HostRuntime, progress: Progress, line: &[u8]) -> Progress {
+fn refuse_first(rt: &HostRuntime, progress: Progress, line: &[u8]) -> io::Result<Progress> {
     refuse_word(
         rt,
         progress,
@@ -192,7 +193,7 @@ fn refuse_first(rt: &HostRuntime, progress: Progress, line: &[u8]) -> Progress {
 }
 
 // Tells that the first word is no call.
-fn refuse_name(rt: &HostRuntime, progress: Progress, line: &[u8]) -> Progress {
+fn refuse_name(rt: &HostRuntime, progress: Progress, line: &[u8]) -> io::Result<Progress> {
     if progress.header {
         refuse_word(
             rt,
@@ -207,7 +208,12 @@ fn refuse_name(rt: &HostRuntime, progress: Progress, line: &[u8]) -> Progress {
 }
 
 // Tells that the word `start` should stand there.
-fn refuse_start(rt: &HostRuntime, progress: Progress, line: &[u8], number: usize) -> Progress {
+fn refuse_start(
+    rt: &HostRuntime,
+    progress: Progress,
+    line: &[u8],
+    number: usize,
+) -> io::Result<Progress> {
     refuse_behind(
         rt,
         progress,
@@ -223,7 +229,7 @@ fn refuse_fault(
     line: &[u8],
     fault: Fault,
     number: usize,
-) -> Progress {
+) -> io::Result<Progress> {
     match fault {
         Fault::UnknownWord => refuse_name(rt, progress, line),
         Fault::NumberMissing => refuse_behind(rt, progress, line, number, b"a number is missing"),
@@ -241,27 +247,32 @@ fn refuse_fault(
 }
 
 // Writes the front of a buffer, as much as was put there, and goes on with the next line.
-fn write_front(rt: &HostRuntime, progress: Progress, buffer: &[u8], wrote: Wrote) -> Progress {
-    match put_front(rt, buffer, wrote) {
-        Ok(()) => Progress {
-            line: progress.line.wrapping_add(1),
-            header: true,
-            going: true,
-        },
-        Err(error) => {
-            fail(rt, "standard output", error);
-            stopped(progress)
+fn write_front(
+    rt: &HostRuntime,
+    progress: Progress,
+    buffer: &[u8],
+    wrote: Wrote,
+) -> io::Result<Progress> {
+    if let Wrote::Length(n) = wrote {
+        if n <= buffer.len() {
+            rt.stdout().write_all(&buffer[..n])?;
+            return Ok(Progress {
+                line: progress.line.wrapping_add(1),
+                header: true,
+                going: true,
+            });
         }
     }
+    Err(io::Error::from_raw_os_error(0))
 }
 
-fn write_header(rt: &HostRuntime, progress: Progress, header: Header) -> Progress {
+fn write_header(rt: &HostRuntime, progress: Progress, header: Header) -> io::Result<Progress> {
     let mut buffer = [0u8; 40];
     let wrote = transactions::write_header(&mut buffer, header);
     write_front(rt, progress, &buffer, wrote)
 }
 
-fn write_call(rt: &HostRuntime, progress: Progress, call: Call) -> Progress {
+fn write_call(rt: &HostRuntime, progress: Progress, call: Call) -> io::Result<Progress> {
     let mut buffer = [0u8; 40];
     let wrote = transactions::write_call(&mut buffer, call);
     write_front(rt, progress, &buffer, wrote)
@@ -276,10 +287,10 @@ fn passed_over(progress: Progress) -> Progress {
 }
 
 // Takes a line, without a byte order mark.
-fn take_words(rt: &HostRuntime, progress: Progress, line: &[u8]) -> Progress {
+fn take_words(rt: &HostRuntime, progress: Progress, line: &[u8]) -> io::Result<Progress> {
     let said = notation::read_line(line);
     match said {
-        Line::Nothing => passed_over(progress),
+        Line::Nothing => Ok(passed_over(progress)),
         Line::Header(header) => {
             if progress.header {
                 refuse_word(
@@ -305,7 +316,7 @@ fn take_words(rt: &HostRuntime, progress: Progress, line: &[u8]) -> Progress {
 }
 
 // Takes one line; the first may begin with a byte order mark.
-fn take_line(rt: &HostRuntime, progress: Progress, line: &[u8]) -> Progress {
+fn take_line(rt: &HostRuntime, progress: Progress, line: &[u8]) -> io::Result<Progress> {
     if progress.line == 1 {
         let mark = notation::mark_length(line);
         return take_words(rt, progress, &line[mark..]);
@@ -314,61 +325,62 @@ fn take_line(rt: &HostRuntime, progress: Progress, line: &[u8]) -> Progress {
 }
 
 // Takes one byte: a line feed ends the line that is begun.
-fn take_byte(rt: &HostRuntime, line: &mut [u8], byte: u8, begun: Begun) -> Begun
+fn take_byte(rt: &HostRuntime, line: &mut [u8], byte: u8, begun: Begun) -> io::Result<Begun>
     requires { begun.filled ≤ length line.old }
-    ensures { result.filled ≤ length line.new }
+    ensures { IfOk result (λ next. next.filled ≤ length line.new) }
 {
     let filled = begun.filled;
     let progress = begun.progress;
     if byte == b'\n' {
-        return Begun {
+        return Ok(Begun {
             filled: 0,
-            progress: take_line(rt, progress, &line[..filled]),
-        };
+            progress: take_line(rt, progress, &line[..filled])?,
+        });
     }
     if filled == line.len() {
-        return Begun {
+        return Ok(Begun {
             filled,
-            progress: refuse(rt, progress, b"longer than 4096 bytes"),
-        };
+            progress: refuse(rt, progress, b"longer than 4096 bytes")?,
+        });
     }
     line[filled] = byte;
-    Begun {
+    Ok(Begun {
         filled: filled + 1,
         progress,
-    }
+    })
 }
 
 // Takes bytes, as long as the program is to go on.
-fn take_bytes(rt: &HostRuntime, line: &mut [u8], bytes: &[u8], first: Begun) -> Begun
+fn take_bytes(rt: &HostRuntime, line: &mut [u8], bytes: &[u8], first: Begun) -> io::Result<Begun>
     requires { first.filled ≤ length line.old }
-    ensures { result.filled ≤ length line.new }
+    ensures { IfOk result (λ next. next.filled ≤ length line.new) }
 {
     let mut begun = first;
     let mut i = 0;
     while i < bytes.len() {
-        begun = take_byte(rt, line, bytes[i], begun);
+        begun = take_byte(rt, line, bytes[i], begun)?;
         let progress = begun.progress;
         if !progress.going {
-            return begun;
+            return Ok(begun);
         }
         i += 1;
     }
-    begun
+    Ok(begun)
 }
 
 // Takes the last line, which has no line feed, and sees that there was a header.
-fn take_rest(rt: &HostRuntime, progress: Progress, line: &[u8]) {
-    let last = take_line(rt, progress, line);
+fn take_rest(rt: &HostRuntime, progress: Progress, line: &[u8]) -> io::Result<()> {
+    let last = take_line(rt, progress, line)?;
     if last.going {
         if !last.header {
             refuse(
                 rt,
                 progress,
                 b"the text ends without a header, as \"capacity 64 start 0\"",
-            );
+            )?;
         }
     }
+    Ok(())
 }
 
 fn stop(begun: Begun) -> Begun
@@ -380,26 +392,26 @@ fn stop(begun: Begun) -> Begun
     }
 }
 
-fn spoiled(rt: &HostRuntime, begun: Begun) -> Begun
-    ensures { result.filled ≡ begun.filled }
+fn spoiled(rt: &HostRuntime, begun: Begun) -> io::Result<Begun>
+    ensures { IfOk result (λ next. next.filled ≡ begun.filled) }
 {
-    Begun {
+    Ok(Begun {
         filled: begun.filled,
-        progress: spoil(rt, begun.progress),
-    }
+        progress: spoil(rt, begun.progress)?,
+    })
 }
 
 // Reads once, and takes what was read.
-fn read_once(rt: &HostRuntime, line: &mut [u8], chunk: &mut [u8], begun: Begun) -> Begun
+fn read_once(rt: &HostRuntime, line: &mut [u8], chunk: &mut [u8], begun: Begun) -> io::Result<Begun>
     requires { begun.filled ≤ length line.old }
-    ensures { result.filled ≤ length line.new }
+    ensures { IfOk result (λ next. next.filled ≤ length line.new) }
 {
     match rt.stdin().read(chunk) {
         Ok(count) => {
             if count == 0 {
                 let filled = begun.filled;
-                take_rest(rt, begun.progress, &line[..filled]);
-                return stop(begun);
+                take_rest(rt, begun.progress, &line[..filled])?;
+                return Ok(stop(begun));
             }
             take_bytes(rt, line, &chunk[..count], begun)
         }
@@ -410,7 +422,7 @@ fn read_once(rt: &HostRuntime, line: &mut [u8], chunk: &mut [u8], begun: Begun) 
     }
 }
 
-fn main(rt: HostRuntime) {
+fn main(rt: HostRuntime) -> ExitCode {
     let mut line = [0u8; LONGEST];
     let mut chunk = [0u8; CHUNK];
     let mut begun = Begun {
@@ -423,11 +435,19 @@ fn main(rt: HostRuntime) {
     };
     let mut turns: u64 = 18446744073709551615;
     while 0 < turns {
-        begun = read_once(&rt, &mut line, &mut chunk, begun);
+        match read_once(&rt, &mut line, &mut chunk, begun) {
+            Ok(next) => {
+                begun = next;
+            }
+            Err(error) => {
+                return end_of(&rt, error);
+            }
+        }
         let progress = begun.progress;
         if !progress.going {
-            return;
+            return ExitCode::SUCCESS;
         }
         turns -= 1;
     }
+    ExitCode::SUCCESS
 }
