@@ -70,7 +70,7 @@ fn end_of(rt: &HostRuntime, error: io::Error) -> ExitCode {
     ExitCode::SUCCESS
 }
 
-// Writes the front of a buffer, as much as was put there.
+// Writes the front of a buffer, as much as was put there; where nothing was, the error is that of a system where no call failed.
 fn write_front(rt: &HostRuntime, buffer: &[u8], wrote: Wrote) -> io::Result<()> {
     if let Wrote::Length(n) = wrote {
         if n <= buffer.len() {

@@ -246,7 +246,7 @@ fn refuse_fault(
     }
 }
 
-// Writes the front of a buffer, as much as was put there, and goes on with the next line.
+// Writes the front of a buffer, as much as was put there, and goes on with the next line; where nothing was put, the error is that of a system where no call failed.
 fn write_front(
     rt: &HostRuntime,
     progress: Progress,
