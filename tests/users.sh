@@ -296,10 +296,10 @@ example_tells() {
   rm -f "$work/in" && mkfifo "$work/in"
   stub_example all_new RT_WAITS="$work/in" &
   runner=$!
-  in_time grep -q '^build: proved lists: 1 of 4 crates, 0 min [0-9]* s$' "$work/said"
+  in_time grep -q '^example: proved lists: 1 of 4 crates, 0 min [0-9]* s$' "$work/said"
   came=$?
   echo go >"$work/in"
-  wait "$runner" && [ "$came" -eq 0 ] && grep -q '^build: proved schedule: 4 of 4 crates, ' "$work/said" &&
+  wait "$runner" && [ "$came" -eq 0 ] && grep -q '^example: proved schedule: 4 of 4 crates, ' "$work/said" &&
     [ "$(wc -l <"$work/said")" -eq 4 ] && cmp "$work/wrote" examples/listing/lines.txt && nothing_left
 }
 
@@ -309,7 +309,7 @@ example_names() {
   rm -f "$work/in" && mkfifo "$work/in"
   stub_example all_new RT_WAITS="$work/in" RT_HEAD=5 &
   runner=$!
-  in_time grep -q '^build: proving lines: 2 of 4 crates are proved, 0 min [0-9]* s$' "$work/said"
+  in_time grep -q '^example: proving lines: 2 of 4 crates are proved, 0 min [0-9]* s$' "$work/said"
   came=$?
   echo go >"$work/in"
   wait "$runner" && [ "$came" -eq 0 ] && nothing_left
@@ -320,7 +320,7 @@ example_on_terminal() {
   touch "$root/crates/schedule/src/main.rt"
   PATH=$work/stubs:$real_path TMPDIR=$work/tmp RATTLE_HOME=$work/kit RT_SAYS=$work/all_new python3 -c 'import pty, sys; pty.spawn(sys.argv[1:])' \
     "$root/example" </dev/null >"$work/wrote"
-  tr '\r' '\n' <"$work/wrote" | grep -q 'build: proved schedule: 4 of 4 crates' &&
+  tr '\r' '\n' <"$work/wrote" | grep -q 'example: proved schedule: 4 of 4 crates' &&
     tail -n +2 "$work/wrote" | tr -d '\r' | cmp - <(tail -n +2 examples/listing/lines.txt)
 }
 

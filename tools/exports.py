@@ -64,6 +64,8 @@ def flat(text):
 
 
 def main():
+    if sys.argv[1:] not in ([], ['--check']):
+        sys.exit('usage: tools/exports.py [--check]')
     text = written()
     if '--check' in sys.argv:
         with open(TO, encoding='utf-8') as file:

@@ -22,7 +22,7 @@ Plain [] = ⊥
 Plain (d ∷ []) = Unit {0}
 Plain (d ∷ e ∷ ds) = 48 < d
 
--- the text is the decimal text of n; there is one and only one (proofs/Digits: digits-decimal, decimal_unique)
+-- the text is the decimal text of n; there is one and only one (proofs/Digits: digits_decimal, decimal_unique)
 pub record Decimal (n : ℕ) (text : List ℕ) : Type 0 where
   pub only : All Digit text
   pub worth : worth_from 0 text ≡ n
