@@ -2,7 +2,7 @@
 // on standard error with their offset, and ends the program; what stands before them has been written.
 #![tactic(auto)]
 
-ghost use Rattle.std.specs.Prelude.{◌≡◌, true, ◌≤◌, length, IfOk};
+ghost use Rattle.std.specs.Prelude.{◌≡◌, true, ◌≤◌, length};
 ghost use Rattle.windows.specs.Windows.{Held, left_of};
 
 use groups::Wrote;
@@ -16,19 +16,28 @@ const ROOM: usize = 4096;
 // The status of a program whose reader left, as a shell tells it of one that the signal PIPE ended.
 const READER_LEFT: u8 = 141;
 
-// How far the program is: what is held of the input, whether the header was read, and whether to go on.
+// How far the program is: what is held of the input, whether the header was read, whether to go on, and whether the reader of the output left.
 #[derive(Clone, Copy)]
 struct Progress {
     pub window: Window,
     pub header: bool,
     pub going: bool,
+    pub left: bool,
 }
 
-// The place up to which the bytes held were taken, and whether to go on.
+// The place up to which the bytes held were taken, whether to go on, and whether the reader of the output left.
 #[derive(Clone, Copy)]
 struct Taken {
     pub at: usize,
     pub going: bool,
+    pub left: bool,
+}
+
+// What came of a write: whether to go on, and whether the reader of the output left.
+#[derive(Clone, Copy)]
+struct Shown {
+    pub going: bool,
+    pub left: bool,
 }
 
 fn say(rt: &HostRuntime, text: &[u8]) {
@@ -61,99 +70,126 @@ fn fail(rt: &HostRuntime, what: &str, error: io::Error) {
     let _ = eprintln!(rt; "{what}: {words}");
 }
 
-// How the program ends where a write failed: it tells why, but says nothing to a reader that has left.
-fn end_of(rt: &HostRuntime, error: io::Error) -> ExitCode {
-    if error.kind() == ErrorKind::BrokenPipe {
-        return ExitCode::from(READER_LEFT);
+// Stops where a write failed: it tells why, but says nothing to a reader that has left.
+fn unwritten(rt: &HostRuntime, error: io::Error) -> Shown {
+    let left = error.kind() == ErrorKind::BrokenPipe;
+    if !left {
+        fail(rt, "standard output", error);
     }
-    fail(rt, "standard output", error);
-    ExitCode::SUCCESS
+    Shown { going: false, left }
 }
 
 // Writes the front of a buffer, as much as was put there; where nothing was, the error is that of a system where no call failed.
-fn write_front(rt: &HostRuntime, buffer: &[u8], wrote: Wrote) -> io::Result<()> {
+fn write_front(rt: &HostRuntime, buffer: &[u8], wrote: Wrote) -> Shown {
     if let Wrote::Length(n) = wrote {
         if n <= buffer.len() {
-            return rt.stdout().write_all(&buffer[..n]);
+            return match rt.stdout().write_all(&buffer[..n]) {
+                Ok(()) => Shown {
+                    going: true,
+                    left: false,
+                },
+                Err(error) => unwritten(rt, error),
+            };
         }
     }
-    Err(io::Error::from_raw_os_error(0))
+    unwritten(rt, io::Error::from_raw_os_error(0))
 }
 
-fn show_call(rt: &HostRuntime, call: Call) -> io::Result<()> {
+fn show_call(rt: &HostRuntime, call: Call) -> Shown {
     let mut text = [0u8; 80];
     let wrote = notation::write_call(&mut text, call);
     write_front(rt, &text, wrote)
 }
 
-fn show_header(rt: &HostRuntime, header: Header) -> io::Result<()> {
+fn show_header(rt: &HostRuntime, header: Header) -> Shown {
     let mut text = [0u8; 80];
     let wrote = notation::write_header(&mut text, header);
     write_front(rt, &text, wrote)
 }
 
 // Takes the header from the bytes held, if it is there.
-fn take_header(rt: &HostRuntime, bytes: &[u8], window: Window) -> io::Result<Taken>
-    ensures { IfOk result (λ taken. taken.at ≤ length bytes.now) }
+fn take_header(rt: &HostRuntime, bytes: &[u8], window: Window) -> Taken
+    ensures { result.at ≤ length bytes.now }
 {
     let reading = transactions::read_header(bytes, window.more);
     match reading {
         HeaderReading::Header(header, len) => {
-            show_header(rt, header)?;
-            Ok(Taken {
+            let Shown { going, left } = show_header(rt, header);
+            Taken {
                 at: len,
-                going: true,
-            })
+                going,
+                left,
+            }
         }
         HeaderReading::Stop(place) => {
             refuse(rt, window, place);
-            Ok(Taken {
+            Taken {
                 at: 0,
                 going: false,
-            })
+                left: false,
+            }
         }
-        HeaderReading::More => Ok(Taken { at: 0, going: true }),
+        HeaderReading::More => Taken {
+            at: 0,
+            going: true,
+            left: false,
+        },
     }
 }
 
 // Takes the calls from a place of the bytes held on.
-fn take_calls(rt: &HostRuntime, bytes: &[u8], from: usize, window: Window) -> io::Result<Taken>
+fn take_calls(rt: &HostRuntime, bytes: &[u8], from: usize, window: Window) -> Taken
     requires { from ≤ length bytes.now }
-    ensures { IfOk result (λ taken. taken.at ≤ length bytes.now) }
+    ensures { result.at ≤ length bytes.now }
 {
     let mut at = from;
     while at < bytes.len() {
         let reading = transactions::read_call(bytes, at, window.more);
         match reading {
             Reading::Call(call, len) => {
-                show_call(rt, call)?;
+                let Shown { going, left } = show_call(rt, call);
+                if !going {
+                    return Taken { at, going, left };
+                }
                 at += len;
             }
             Reading::Stop(place) => {
                 refuse(rt, window, place);
-                return Ok(Taken { at, going: false });
+                return Taken {
+                    at,
+                    going: false,
+                    left: false,
+                };
             }
             Reading::More => {
-                return Ok(Taken { at, going: true });
+                return Taken {
+                    at,
+                    going: true,
+                    left: false,
+                };
             }
         }
     }
-    Ok(Taken { at, going: true })
+    Taken {
+        at,
+        going: true,
+        left: false,
+    }
 }
 
 // Takes the header, if it was not yet read, and the calls behind it.
-fn take_bytes(rt: &HostRuntime, bytes: &[u8], window: Window, header: bool) -> io::Result<Taken>
-    ensures { IfOk result (λ taken. taken.at ≤ length bytes.now) }
+fn take_bytes(rt: &HostRuntime, bytes: &[u8], window: Window, header: bool) -> Taken
+    ensures { result.at ≤ length bytes.now }
 {
     if header {
         return take_calls(rt, bytes, 0, window);
     }
-    let taken = take_header(rt, bytes, window)?;
+    let taken = take_header(rt, bytes, window);
     if !taken.going {
-        return Ok(taken);
+        return taken;
     }
     if taken.at == 0 {
-        return Ok(taken);
+        return taken;
     }
     take_calls(rt, bytes, taken.at, window)
 }
@@ -167,27 +203,29 @@ fn header_read(header: bool, at: usize) -> bool {
 }
 
 // Takes what is held. Behind the end of the input nothing follows.
-fn take_held(rt: &HostRuntime, buffer: &[u8], window: Window, header: bool) -> io::Result<Progress>
+fn take_held(rt: &HostRuntime, buffer: &[u8], window: Window, header: bool) -> Progress
     requires { Held window (length buffer.now) }
-    ensures { IfOk result (λ next. Held next.window (length buffer.now) × (left_of next.window ≤ left_of window) × (next.going ≡ true → next.window.more ≡ true)) }
+    ensures { Held result.window (length buffer.now) × (left_of result.window ≤ left_of window) × (result.going ≡ true → result.window.more ≡ true) }
 {
     let from = window.from;
     let to = window.to;
-    let taken = take_bytes(rt, &buffer[from..to], window, header)?;
+    let taken = take_bytes(rt, &buffer[from..to], window, header);
     let rest = windows::drop_front(window, taken.at);
     let read = header_read(header, taken.at);
     if window.more {
-        return Ok(Progress {
+        return Progress {
             window: rest,
             header: read,
             going: taken.going,
-        });
+            left: taken.left,
+        };
     }
-    Ok(Progress {
+    Progress {
         window: rest,
         header: read,
         going: false,
-    })
+        left: taken.left,
+    }
 }
 
 fn main(rt: HostRuntime) -> ExitCode {
@@ -196,6 +234,7 @@ fn main(rt: HostRuntime) -> ExitCode {
         window: windows::unread_window(),
         header: false,
         going: true,
+        left: false,
     };
     while progress.going {
         let Fetched::Held(window) = windows::fetch(
@@ -206,14 +245,10 @@ fn main(rt: HostRuntime) -> ExitCode {
         ) else {
             return ExitCode::SUCCESS;
         };
-        match take_held(&rt, &buffer, window, progress.header) {
-            Ok(next) => {
-                progress = next;
-            }
-            Err(error) => {
-                return end_of(&rt, error);
-            }
-        }
+        progress = take_held(&rt, &buffer, window, progress.header);
+    }
+    if progress.left {
+        return ExitCode::from(READER_LEFT);
     }
     ExitCode::SUCCESS
 }

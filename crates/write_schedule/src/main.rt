@@ -2,7 +2,7 @@
 // error with its line and its word, and ends the program: behind what was written before it stands a byte at which the file stops.
 #![tactic(auto)]
 
-ghost use Rattle.std.specs.Prelude.{◌≡◌, ◌≤◌, length, IfOk};
+ghost use Rattle.std.specs.Prelude.{◌≡◌, ◌≤◌, length};
 
 use groups::Wrote;
 use notation::{Fault, Line};
@@ -18,12 +18,13 @@ const CHUNK: usize = 4096;
 // The status of a program whose reader left, as a shell tells it of one that the signal PIPE ended.
 const READER_LEFT: u8 = 141;
 
-// How far the program is: the number of the next line, whether the header was read, and whether to go on.
+// How far the program is: the number of the next line, whether the header was read, whether to go on, and whether the reader of the output left.
 #[derive(Clone, Copy)]
 struct Progress {
     pub line: u64,
     pub header: bool,
     pub going: bool,
+    pub left: bool,
 }
 
 // How many bytes of a line stand in the line's buffer, and how far the program is before that line.
@@ -61,34 +62,42 @@ fn fail(rt: &HostRuntime, what: &str, error: io::Error) {
     let _ = eprintln!(rt; "{what}: {words}");
 }
 
-// How the program ends where a write failed: it tells why, but says nothing to a reader that has left.
-fn end_of(rt: &HostRuntime, error: io::Error) -> ExitCode {
-    if error.kind() == ErrorKind::BrokenPipe {
-        return ExitCode::from(READER_LEFT);
-    }
-    fail(rt, "standard output", error);
-    ExitCode::SUCCESS
-}
-
 fn stopped(progress: Progress) -> Progress {
     Progress {
         line: progress.line,
         header: progress.header,
         going: false,
+        left: progress.left,
+    }
+}
+
+// Stops where a write failed: it tells why, but says nothing to a reader that has left.
+fn unwritten(rt: &HostRuntime, progress: Progress, error: io::Error) -> Progress {
+    let left = error.kind() == ErrorKind::BrokenPipe;
+    if !left {
+        fail(rt, "standard output", error);
+    }
+    Progress {
+        line: progress.line,
+        header: progress.header,
+        going: false,
+        left,
     }
 }
 
 // Stops, with a byte behind what was written at which the schedule file stops; nothing where no header was written.
-fn spoil(rt: &HostRuntime, progress: Progress) -> io::Result<Progress> {
+fn spoil(rt: &HostRuntime, progress: Progress) -> Progress {
     if progress.header {
         let last = [notation::fault_byte()];
-        rt.stdout().write_all(&last)?;
+        if let Err(error) = rt.stdout().write_all(&last) {
+            return unwritten(rt, progress, error);
+        }
     }
-    Ok(stopped(progress))
+    stopped(progress)
 }
 
 // Tells what is wrong with the next line, and stops.
-fn refuse(rt: &HostRuntime, progress: Progress, why: &[u8]) -> io::Result<Progress> {
+fn refuse(rt: &HostRuntime, progress: Progress, why: &[u8]) -> Progress {
     say_line(rt, progress.line);
     say(rt, why);
     say(rt, b"\n");
@@ -119,7 +128,7 @@ fn refuse_word(
     line: &[u8],
     number: usize,
     why: &[u8],
-) -> io::Result<Progress> {
+) -> Progress {
     say_line(rt, progress.line);
     say_word(rt, line, number);
     say(rt, why);
@@ -134,7 +143,7 @@ fn refuse_behind(
     line: &[u8],
     number: usize,
     why: &[u8],
-) -> io::Result<Progress> {
+) -> Progress {
     say_line(rt, progress.line);
     if say_word(rt, line, number) {
         say(rt, b": ");
@@ -155,7 +164,7 @@ fn refuse_range(
     line: &[u8],
     number: usize,
     kind: u8,
-) -> io::Result<Progress> {
+) -> Progress {
     match kind {
         0 => refuse_word(
             rt,
@@ -182,7 +191,7 @@ fn refuse_range(
 }
 
 // Tells that the first word should be that of a header.
-fn refuse_first(rt: &HostRuntime, progress: Progress, line: &[u8]) -> io::Result<Progress> {
+fn refuse_first(rt: &HostRuntime, progress: Progress, line: &[u8]) -> Progress {
     refuse_word(
         rt,
         progress,
@@ -193,7 +202,7 @@ fn refuse_first(rt: &HostRuntime, progress: Progress, line: &[u8]) -> io::Result
 }
 
 // Tells that the first word is no call.
-fn refuse_name(rt: &HostRuntime, progress: Progress, line: &[u8]) -> io::Result<Progress> {
+fn refuse_name(rt: &HostRuntime, progress: Progress, line: &[u8]) -> Progress {
     if progress.header {
         refuse_word(
             rt,
@@ -208,12 +217,7 @@ fn refuse_name(rt: &HostRuntime, progress: Progress, line: &[u8]) -> io::Result<
 }
 
 // Tells that the word `start` should stand there.
-fn refuse_start(
-    rt: &HostRuntime,
-    progress: Progress,
-    line: &[u8],
-    number: usize,
-) -> io::Result<Progress> {
+fn refuse_start(rt: &HostRuntime, progress: Progress, line: &[u8], number: usize) -> Progress {
     refuse_behind(
         rt,
         progress,
@@ -229,7 +233,7 @@ fn refuse_fault(
     line: &[u8],
     fault: Fault,
     number: usize,
-) -> io::Result<Progress> {
+) -> Progress {
     match fault {
         Fault::UnknownWord => refuse_name(rt, progress, line),
         Fault::NumberMissing => refuse_behind(rt, progress, line, number, b"a number is missing"),
@@ -247,32 +251,30 @@ fn refuse_fault(
 }
 
 // Writes the front of a buffer, as much as was put there, and goes on with the next line; where nothing was put, the error is that of a system where no call failed.
-fn write_front(
-    rt: &HostRuntime,
-    progress: Progress,
-    buffer: &[u8],
-    wrote: Wrote,
-) -> io::Result<Progress> {
+fn write_front(rt: &HostRuntime, progress: Progress, buffer: &[u8], wrote: Wrote) -> Progress {
     if let Wrote::Length(n) = wrote {
         if n <= buffer.len() {
-            rt.stdout().write_all(&buffer[..n])?;
-            return Ok(Progress {
-                line: progress.line.wrapping_add(1),
-                header: true,
-                going: true,
-            });
+            return match rt.stdout().write_all(&buffer[..n]) {
+                Ok(()) => Progress {
+                    line: progress.line.wrapping_add(1),
+                    header: true,
+                    going: true,
+                    left: false,
+                },
+                Err(error) => unwritten(rt, progress, error),
+            };
         }
     }
-    Err(io::Error::from_raw_os_error(0))
+    unwritten(rt, progress, io::Error::from_raw_os_error(0))
 }
 
-fn write_header(rt: &HostRuntime, progress: Progress, header: Header) -> io::Result<Progress> {
+fn write_header(rt: &HostRuntime, progress: Progress, header: Header) -> Progress {
     let mut buffer = [0u8; 40];
     let wrote = transactions::write_header(&mut buffer, header);
     write_front(rt, progress, &buffer, wrote)
 }
 
-fn write_call(rt: &HostRuntime, progress: Progress, call: Call) -> io::Result<Progress> {
+fn write_call(rt: &HostRuntime, progress: Progress, call: Call) -> Progress {
     let mut buffer = [0u8; 40];
     let wrote = transactions::write_call(&mut buffer, call);
     write_front(rt, progress, &buffer, wrote)
@@ -283,14 +285,15 @@ fn passed_over(progress: Progress) -> Progress {
         line: progress.line.wrapping_add(1),
         header: progress.header,
         going: true,
+        left: progress.left,
     }
 }
 
 // Takes a line, without a byte order mark.
-fn take_words(rt: &HostRuntime, progress: Progress, line: &[u8]) -> io::Result<Progress> {
+fn take_words(rt: &HostRuntime, progress: Progress, line: &[u8]) -> Progress {
     let said = notation::read_line(line);
     match said {
-        Line::Nothing => Ok(passed_over(progress)),
+        Line::Nothing => passed_over(progress),
         Line::Header(header) => {
             if progress.header {
                 refuse_word(
@@ -316,7 +319,7 @@ fn take_words(rt: &HostRuntime, progress: Progress, line: &[u8]) -> io::Result<P
 }
 
 // Takes one line; the first may begin with a byte order mark.
-fn take_line(rt: &HostRuntime, progress: Progress, line: &[u8]) -> io::Result<Progress> {
+fn take_line(rt: &HostRuntime, progress: Progress, line: &[u8]) -> Progress {
     if progress.line == 1 {
         let mark = notation::mark_length(line);
         return take_words(rt, progress, &line[mark..]);
@@ -325,62 +328,62 @@ fn take_line(rt: &HostRuntime, progress: Progress, line: &[u8]) -> io::Result<Pr
 }
 
 // Takes one byte: a line feed ends the line that is begun.
-fn take_byte(rt: &HostRuntime, line: &mut [u8], byte: u8, begun: Begun) -> io::Result<Begun>
+fn take_byte(rt: &HostRuntime, line: &mut [u8], byte: u8, begun: Begun) -> Begun
     requires { begun.filled ≤ length line.old }
-    ensures { IfOk result (λ next. next.filled ≤ length line.new) }
+    ensures { result.filled ≤ length line.new }
 {
     let filled = begun.filled;
     let progress = begun.progress;
     if byte == b'\n' {
-        return Ok(Begun {
+        return Begun {
             filled: 0,
-            progress: take_line(rt, progress, &line[..filled])?,
-        });
+            progress: take_line(rt, progress, &line[..filled]),
+        };
     }
     if filled == line.len() {
-        return Ok(Begun {
+        return Begun {
             filled,
-            progress: refuse(rt, progress, b"longer than 4096 bytes")?,
-        });
+            progress: refuse(rt, progress, b"longer than 4096 bytes"),
+        };
     }
     line[filled] = byte;
-    Ok(Begun {
+    Begun {
         filled: filled + 1,
         progress,
-    })
+    }
 }
 
 // Takes bytes, as long as the program is to go on.
-fn take_bytes(rt: &HostRuntime, line: &mut [u8], bytes: &[u8], first: Begun) -> io::Result<Begun>
+fn take_bytes(rt: &HostRuntime, line: &mut [u8], bytes: &[u8], first: Begun) -> Begun
     requires { first.filled ≤ length line.old }
-    ensures { IfOk result (λ next. next.filled ≤ length line.new) }
+    ensures { result.filled ≤ length line.new }
 {
     let mut begun = first;
     let mut i = 0;
     while i < bytes.len() {
-        begun = take_byte(rt, line, bytes[i], begun)?;
+        begun = take_byte(rt, line, bytes[i], begun);
         let progress = begun.progress;
         if !progress.going {
-            return Ok(begun);
+            return begun;
         }
         i += 1;
     }
-    Ok(begun)
+    begun
 }
 
 // Takes the last line, which has no line feed, and sees that there was a header.
-fn take_rest(rt: &HostRuntime, progress: Progress, line: &[u8]) -> io::Result<()> {
-    let last = take_line(rt, progress, line)?;
+fn take_rest(rt: &HostRuntime, progress: Progress, line: &[u8]) -> Progress {
+    let last = take_line(rt, progress, line);
     if last.going {
         if !last.header {
-            refuse(
+            return refuse(
                 rt,
                 progress,
                 b"the text ends without a header, as \"capacity 64 start 0\"",
-            )?;
+            );
         }
     }
-    Ok(())
+    last
 }
 
 fn stop(begun: Begun) -> Begun
@@ -392,26 +395,26 @@ fn stop(begun: Begun) -> Begun
     }
 }
 
-fn spoiled(rt: &HostRuntime, begun: Begun) -> io::Result<Begun>
-    ensures { IfOk result (λ next. next.filled ≡ begun.filled) }
+fn spoiled(rt: &HostRuntime, begun: Begun) -> Begun
+    ensures { result.filled ≡ begun.filled }
 {
-    Ok(Begun {
+    Begun {
         filled: begun.filled,
-        progress: spoil(rt, begun.progress)?,
-    })
+        progress: spoil(rt, begun.progress),
+    }
 }
 
 // Reads once, and takes what was read.
-fn read_once(rt: &HostRuntime, line: &mut [u8], chunk: &mut [u8], begun: Begun) -> io::Result<Begun>
+fn read_once(rt: &HostRuntime, line: &mut [u8], chunk: &mut [u8], begun: Begun) -> Begun
     requires { begun.filled ≤ length line.old }
-    ensures { IfOk result (λ next. next.filled ≤ length line.new) }
+    ensures { result.filled ≤ length line.new }
 {
     match rt.stdin().read(chunk) {
         Ok(count) => {
             if count == 0 {
                 let filled = begun.filled;
-                take_rest(rt, begun.progress, &line[..filled])?;
-                return Ok(stop(begun));
+                let progress = take_rest(rt, begun.progress, &line[..filled]);
+                return stop(Begun { filled, progress });
             }
             take_bytes(rt, line, &chunk[..count], begun)
         }
@@ -431,19 +434,16 @@ fn main(rt: HostRuntime) -> ExitCode {
             line: 1,
             header: false,
             going: true,
+            left: false,
         },
     };
     let mut turns: u64 = 18446744073709551615;
     while 0 < turns {
-        match read_once(&rt, &mut line, &mut chunk, begun) {
-            Ok(next) => {
-                begun = next;
-            }
-            Err(error) => {
-                return end_of(&rt, error);
-            }
-        }
+        begun = read_once(&rt, &mut line, &mut chunk, begun);
         let progress = begun.progress;
+        if progress.left {
+            return ExitCode::from(READER_LEFT);
+        }
         if !progress.going {
             return ExitCode::SUCCESS;
         }
