@@ -70,6 +70,14 @@ early_reader() {
   [ "${PIPESTATUS[0]}" -ne 124 ] && cmp -s "$work/wrote" <("$programs/second" <"$work/long" 2>/dev/null | head -n 3)
 }
 
+# Each program ends with 141 where the reader of its output has left, and says nothing.
+ends_with_its_reader() {
+  local statuses
+  timeout 60 tools/run "$1" <"$2" 2>"$work/said" | head -c 1 >"$work/wrote"
+  statuses=${PIPESTATUS[*]}
+  [ "$statuses" = "141 0" ] && [ ! -s "$work/said" ]
+}
+
 "$programs/generate" 7 long 1 >"$work/million" || exit 1
 head -c 100000 "$work/million" >"$work/short"
 cp "$work/million" "$work/long"
@@ -93,6 +101,11 @@ expect "input that cannot be read" unreadable_input
 expect "output that cannot be written" full_output
 expect "output that is closed" closed_output
 expect "a reader that leaves early" early_reader
+head -c 400000 "$work/long" | tools/run read_schedule >"$work/long.text" 2>/dev/null
+for program in schedule read_schedule; do
+  expect "$program: the reader of its output left" ends_with_its_reader "$program" "$work/long"
+done
+expect "write_schedule: the reader of its output left" ends_with_its_reader write_schedule "$work/long.text"
 
 echo "$passed passed, $failed failed"
 [ "$failed" -eq 0 ]

@@ -6,15 +6,12 @@ ghost use Rattle.std.specs.Prelude.{◌≡◌, true, ◌≤◌, length};
 ghost use Rattle.windows.specs.Windows.{Held, left_of};
 
 use groups::Wrote;
-use std::io::{self, ErrorKind};
+use std::io;
 use std::process::ExitCode;
 use transactions::{Call, Header, HeaderReading, Reading};
 use windows::{Fetched, Window};
 
 const ROOM: usize = 4096;
-
-// The status of a program whose reader left, as a shell tells it of one that the signal PIPE ended.
-const READER_LEFT: u8 = 141;
 
 // How far the program is: what is held of the input, whether the header was read, whether to go on, and whether the reader of the output left.
 #[derive(Clone, Copy)]
@@ -52,30 +49,9 @@ fn refuse(rt: &HostRuntime, window: Window, place: usize) {
     say(rt, b": not a schedule file from here\n");
 }
 
-// The system's own words in a message of std: behind them stands the error's number.
-fn words_of(message: &str) -> &str {
-    match message.split_once(" (os error ") {
-        Some((words, _)) => words,
-        None => message,
-    }
-}
-
-// Tells what failed and why.
-fn fail(rt: &HostRuntime, what: &str, error: io::Error) {
-    let Ok(message) = format!(in rt.alloc(); "{error}") else {
-        let _ = eprintln!(rt; "{what}: {error}");
-        return;
-    };
-    let words = words_of(&message);
-    let _ = eprintln!(rt; "{what}: {words}");
-}
-
 // Stops where a write failed: it tells why, but says nothing to a reader that has left.
 fn unwritten(rt: &HostRuntime, error: io::Error) -> Shown {
-    let left = error.kind() == ErrorKind::BrokenPipe;
-    if !left {
-        fail(rt, "standard output", error);
-    }
+    let left = failures::reader_left(rt, error);
     Shown { going: false, left }
 }
 
@@ -248,7 +224,7 @@ fn main(rt: HostRuntime) -> ExitCode {
         progress = take_held(&rt, &buffer, window, progress.header);
     }
     if progress.left {
-        return ExitCode::from(READER_LEFT);
+        return ExitCode::from(failures::READER_LEFT);
     }
     ExitCode::SUCCESS
 }

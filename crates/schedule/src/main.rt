@@ -33,9 +33,6 @@ const PAIRS: usize = 3584;
 
 const OUTPUT: usize = 262144;
 
-// The status of a program whose reader left, as a shell tells it of one that the signal PIPE ended.
-const READER_LEFT: u8 = 141;
-
 // ---- set-up
 
 // How the memory is cut.
@@ -445,7 +442,7 @@ fn run(
 // How the program ends where a write failed: it says so, but not to a reader that has left.
 fn end_of(rt: &HostRuntime, error: io::Error) -> ExitCode {
     if error.kind() == ErrorKind::BrokenPipe {
-        return ExitCode::from(READER_LEFT);
+        return ExitCode::from(failures::READER_LEFT);
     }
     complain(rt, b"schedule: writing standard output failed\n");
     ExitCode::SUCCESS

@@ -6,7 +6,7 @@ ghost use Rattle.std.specs.Prelude.{◌≡◌, ◌≤◌, length};
 
 use groups::Wrote;
 use notation::{Fault, Line};
-use std::io::{self, ErrorKind, Read};
+use std::io::{self, Read};
 use std::process::ExitCode;
 use transactions::{Call, Header};
 
@@ -14,9 +14,6 @@ use transactions::{Call, Header};
 const LONGEST: usize = 4096;
 
 const CHUNK: usize = 4096;
-
-// The status of a program whose reader left, as a shell tells it of one that the signal PIPE ended.
-const READER_LEFT: u8 = 141;
 
 // How far the program is: the number of the next line, whether the header was read, whether to go on, and whether the reader of the output left.
 #[derive(Clone, Copy)]
@@ -44,24 +41,6 @@ fn say_line(rt: &HostRuntime, line: u64) {
     say(rt, b": ");
 }
 
-// The system's own words in a message of std: behind them stands the error's number.
-fn words_of(message: &str) -> &str {
-    match message.split_once(" (os error ") {
-        Some((words, _)) => words,
-        None => message,
-    }
-}
-
-// Tells what failed and why.
-fn fail(rt: &HostRuntime, what: &str, error: io::Error) {
-    let Ok(message) = format!(in rt.alloc(); "{error}") else {
-        let _ = eprintln!(rt; "{what}: {error}");
-        return;
-    };
-    let words = words_of(&message);
-    let _ = eprintln!(rt; "{what}: {words}");
-}
-
 fn stopped(progress: Progress) -> Progress {
     Progress {
         line: progress.line,
@@ -73,10 +52,7 @@ fn stopped(progress: Progress) -> Progress {
 
 // Stops where a write failed: it tells why, but says nothing to a reader that has left.
 fn unwritten(rt: &HostRuntime, progress: Progress, error: io::Error) -> Progress {
-    let left = error.kind() == ErrorKind::BrokenPipe;
-    if !left {
-        fail(rt, "standard output", error);
-    }
+    let left = failures::reader_left(rt, error);
     Progress {
         line: progress.line,
         header: progress.header,
@@ -419,7 +395,7 @@ fn read_once(rt: &HostRuntime, line: &mut [u8], chunk: &mut [u8], begun: Begun) 
             take_bytes(rt, line, &chunk[..count], begun)
         }
         Err(error) => {
-            fail(rt, "standard input", error);
+            failures::fail(rt, "standard input", error);
             spoiled(rt, begun)
         }
     }
@@ -442,7 +418,7 @@ fn main(rt: HostRuntime) -> ExitCode {
         begun = read_once(&rt, &mut line, &mut chunk, begun);
         let progress = begun.progress;
         if progress.left {
-            return ExitCode::from(READER_LEFT);
+            return ExitCode::from(failures::READER_LEFT);
         }
         if !progress.going {
             return ExitCode::SUCCESS;
