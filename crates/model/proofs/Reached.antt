@@ -9,7 +9,7 @@ use native.Mathlib.Omega.{arith}
 use lib.ListN.{length}
 use borrow.Author.Tests.{ne_eqb}
 use Rattle.sizes.specs.declared.Size.{Size}
-use Rattle.sizes.specs.declared.Sized.{Sized}
+use Rattle.std.specs.Prelude.{Option as Optional, Some, None}
 use Rattle.sizes.specs.Sizes.{size_of}
 use Rattle.sizes.proofs.Sizing.{size_rule}
 use Rattle.lists.specs.Holds.{All, Pairwise}
@@ -108,9 +108,9 @@ pub begun : (capacity start : ℕ) (s : State) → set_up capacity start ≡ som
 unfolding set_up
 begun capacity start s e = go (size_of capacity) refl e
   where
-    go : (z : Sized) → size_of capacity ≡ z → fresh_of start z ≡ some s → Begun capacity start s
-    go Sized.Nothing f g = let z : ◌≡◌ {A = Bool} true false = cc in absurd (true≢false z)
-    go (Sized.Of z) f g =
+    go : (z : Optional Size) → size_of capacity ≡ z → fresh_of start z ≡ some s → Begun capacity start s
+    go None f g = let z : ◌≡◌ {A = Bool} true false = cc in absurd (true≢false z)
+    go (Some z) f g =
         let r = size_rule capacity z f in
         let h : fresh z.capacity z.levels start ≡ s = cc in
         record { size = z; asked = r.asked; tall = omega (arith, r.rule.low); fresh_at = rw r.asked at h }

@@ -1,61 +1,70 @@
 -- The answers of the calls as the document has them: the refusal's number, or the answer's numbers in their order and the pairs.
 -- Assumes nothing.
-use Rattle.std.specs.Prelude.{cond, List, [], ◌∷◌, ℕ, zero, suc, ℤ, pos}
-use Rattle.model.specs.declared.SetUp.{SetUp}
-use Rattle.model.specs.declared.Found.{Found}
-use Rattle.model.specs.declared.Inserted.{Inserted}
-use Rattle.model.specs.declared.Removed.{Removed}
+use Rattle.std.specs.Prelude.{cond, List, [], ◌∷◌, ℕ, zero, suc, ℤ, pos, Result, Ok, Err, ⊤}
+use Rattle.sizes.specs.declared.Node.{Node}
+use Rattle.sizes.specs.declared.Version.{Version}
+use Rattle.model.specs.declared.Refusal.{Refusal}
 use Rattle.model.specs.declared.Handed.{Handed}
-use Rattle.model.specs.declared.Nearest.{Nearest}
-use Rattle.model.specs.declared.Ranged.{Ranged}
-use Rattle.model.specs.declared.Opened.{Opened}
 use Rattle.model.specs.declared.Stepped.{Stepped}
-use Rattle.model.specs.declared.Closed.{Closed}
 use Rattle.model.specs.declared.Swept.{Swept}
 use Rattle.model.specs.declared.Tallied.{Tallied}
 use Rattle.model.specs.Plain.{Pair}
 use Rattle.model.specs.Calls.{Answer, refused, answered, told, found, node, handed, nearest, opened, made_due, swept, counts}
 
-abbrev pub of_set_up : SetUp → Answer
-of_set_up SetUp.Done = told []
-of_set_up (SetUp.Refused n) = refused n
+-- the numbers of the refusals
+abbrev pub refusal_number : Refusal → ℕ
+refusal_number Refusal.NotSound = 1
+refusal_number Refusal.NoSuchCapacity = 2
+refusal_number Refusal.KeyPresent = 3
+refusal_number Refusal.KeyAbsent = 4
+refusal_number Refusal.NoFreeNode = 5
+refusal_number Refusal.BoundsReversed = 6
+refusal_number Refusal.TooManyPairs = 7
+refusal_number Refusal.TooFewPlaces = 8
+refusal_number Refusal.AllTicketsOpen = 9
+refusal_number Refusal.LastVersion = 10
+refusal_number Refusal.NoSuchRange = 11
+refusal_number Refusal.NodeNotPending = 12
+refusal_number Refusal.NoPresentKey = 13
 
-abbrev pub of_found : Found → Answer
-of_found (Found.Value x) = found x
-of_found (Found.Refused n) = refused n
+-- what is answered, or the refusal by its number
+abbrev pub of_result : {A : Type 0} → (A → Answer) → Result A Refusal → Answer
+of_result f (Ok a) = f a
+of_result f (Err r) = refused (refusal_number r)
 
-abbrev pub of_inserted : Inserted → Answer
-of_inserted (Inserted.At i) = node i.0
-of_inserted (Inserted.Refused n) = refused n
+abbrev pub of_set_up : Result ⊤ Refusal → Answer
+of_set_up = of_result (λ x. told [])
 
-abbrev pub of_removed : Removed → Answer
-of_removed (Removed.At i) = node i.0
-of_removed (Removed.Refused n) = refused n
+abbrev pub of_found : Result ℤ Refusal → Answer
+of_found = of_result found
 
-abbrev pub of_handed : Handed → Answer
-of_handed Handed.Freed = handed 1
-of_handed Handed.Held = handed 0
-of_handed (Handed.Refused n) = refused n
+abbrev pub of_inserted : Result Node Refusal → Answer
+of_inserted = of_result (λ (i : Node). node i.0)
 
-abbrev pub of_nearest : Nearest → Answer
-of_nearest (Nearest.Key k) = nearest k
-of_nearest (Nearest.Refused n) = refused n
+abbrev pub of_removed : Result Node Refusal → Answer
+of_removed = of_result (λ (i : Node). node i.0)
 
-abbrev pub of_opened : Opened → Answer
-of_opened (Opened.At v) = opened v.0
-of_opened (Opened.Refused n) = refused n
+abbrev pub told_handed : Handed → Answer
+told_handed Handed.Freed = handed 1
+told_handed Handed.Held = handed 0
 
-abbrev pub of_closed : Closed → Answer
-of_closed (Closed.Due n) = made_due n
-of_closed (Closed.Refused n) = refused n
+abbrev pub of_handed : Result Handed Refusal → Answer
+of_handed = of_result told_handed
 
-abbrev pub of_swept : Swept → Answer
-of_swept (Swept.Nodes n due) = swept n due
-of_swept (Swept.Refused n) = refused n
+abbrev pub of_nearest : Result ℤ Refusal → Answer
+of_nearest = of_result nearest
 
-abbrev pub of_tallied : Tallied → Answer
-of_tallied (Tallied.Counts present held free) = counts present held free
-of_tallied (Tallied.Refused n) = refused n
+abbrev pub of_opened : Result Version Refusal → Answer
+of_opened = of_result (λ (v : Version). opened v.0)
+
+abbrev pub of_closed : Result ℕ Refusal → Answer
+of_closed = of_result made_due
+
+abbrev pub of_swept : Result Swept Refusal → Answer
+of_swept = of_result (λ (s : Swept). swept s.freed s.due)
+
+abbrev pub of_tallied : Result Tallied Refusal → Answer
+of_tallied = of_result (λ (t : Tallied). counts t.present t.held t.free)
 
 -- ---- with pairs: the first n of the two pair buffers, keys and values
 
@@ -65,10 +74,8 @@ paired (suc n) [] vs = []
 paired (suc n) (k ∷ ks) [] = []
 paired (suc n) (k ∷ ks) (v ∷ vs) = (k, v) ∷ paired n ks vs
 
-abbrev pub of_ranged : List ℤ → List ℤ → Ranged → Answer
-of_ranged ks vs (Ranged.Pairs n) = answered (pos n ∷ []) (paired n ks vs)
-of_ranged ks vs (Ranged.Refused n) = refused n
+abbrev pub of_ranged : List ℤ → List ℤ → Result ℕ Refusal → Answer
+of_ranged ks vs = of_result (λ n. answered (pos n ∷ []) (paired n ks vs))
 
-abbrev pub of_stepped : List ℤ → List ℤ → Stepped → Answer
-of_stepped ks vs (Stepped.Pairs n finished) = answered (pos n ∷ pos (cond finished 1 0) ∷ []) (paired n ks vs)
-of_stepped ks vs (Stepped.Refused n) = refused n
+abbrev pub of_stepped : List ℤ → List ℤ → Result Stepped Refusal → Answer
+of_stepped ks vs = of_result (λ (s : Stepped). answered (pos s.pairs ∷ pos (cond s.finished 1 0) ∷ []) (paired s.pairs ks vs))

@@ -1,10 +1,10 @@
 -- What each call does: the model that contracts and theorems cite. A state has no memory, links, levels or buckets.
 -- Assumes nothing.
-use Rattle.std.specs.Prelude.{Bool, true, false, not, cond, ◌&&◌, List, [], ◌∷◌, ◌++◌, map, ℕ, zero, suc, ◌+◌, ◌/◌, ◌%◌, min, length, take, drop, leb, ltb, eqb, ℤ}
+use Rattle.std.specs.Prelude.{Bool, true, false, not, cond, ◌&&◌, List, [], ◌∷◌, ◌++◌, map, ℕ, zero, suc, ◌+◌, ◌/◌, ◌%◌, min, length, take, drop, leb, ltb, eqb, ℤ, Option as Optional, Some, None}
 use Rattle.std.proofs.Math.Option.{Option, none, some}
 use Rattle.std.specs.Int.Signed.{le_z, lt_z}
 use Rattle.lists.specs.Filters.{filter, first, last, empty, lacks, maybe, count}
-use Rattle.sizes.specs.declared.Sized.{Sized}
+use Rattle.sizes.specs.declared.Size.{Size}
 use Rattle.sizes.specs.Sizes.{size_of}
 use Rattle.model.specs.Keys.{eq_z, within}
 use Rattle.model.specs.Plain.{Pair, Map, get, ceil_of, floor_of, succ_of, pred_of, between}
@@ -432,9 +432,9 @@ fresh capacity levels start =
       ranges = [];
     }
 
-abbrev pub fresh_of : ℕ → Sized → Option State
-fresh_of start (Sized.Of s) = some (fresh s.capacity s.levels start)
-fresh_of start Sized.Nothing = none
+abbrev pub fresh_of : ℕ → Optional Size → Option State
+fresh_of start (Some s) = some (fresh s.capacity s.levels start)
+fresh_of start None = none
 
 -- of a capacity that the table has; else it is refused with 2
 unfoldable pub set_up : ℕ → ℕ → Option State

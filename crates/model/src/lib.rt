@@ -1,89 +1,61 @@
-// The answers of the calls, each one of its own kinds. What a call does is said in specs/, without code: no function is here.
+// The answers of the calls, each a Result of its own kind. What a call does is said in specs/, without code.
 #![tactic(auto)]
 
-use sizes::{Node, Version};
+ghost use Rattle.std.specs.Prelude.{◌≡◌};
+ghost use Rattle.model.specs.Answers.{refusal_number};
 
-// Set-up: an empty map.
-#[derive(Clone, Copy)]
-pub enum SetUp {
-    Done,
-    Refused(u32),
+// Why a call is refused, in the order of the numbers, from 1.
+#[derive(Clone, Copy, Debug, PartialEq, Eq)]
+pub enum Refusal {
+    NotSound,
+    NoSuchCapacity,
+    KeyPresent,
+    KeyAbsent,
+    NoFreeNode,
+    BoundsReversed,
+    TooManyPairs,
+    TooFewPlaces,
+    AllTicketsOpen,
+    LastVersion,
+    NoSuchRange,
+    NodeNotPending,
+    NoPresentKey,
 }
 
-// Lookup: the value.
-#[derive(Clone, Copy)]
-pub enum Found {
-    Value(i64),
-    Refused(u32),
-}
+// The number of a refusal.
+impl From<Refusal> for u32 {
+    ghost from_gives = { λ refusal n. n ≡ refusal_number refusal };
 
-// Insert: the node that was taken.
-#[derive(Clone, Copy)]
-pub enum Inserted {
-    At(Node),
-    Refused(u32),
-}
-
-// Remove: the node, which is pending now.
-#[derive(Clone, Copy)]
-pub enum Removed {
-    At(Node),
-    Refused(u32),
+    fn from(refusal: Refusal) -> u32 {
+        refusal as u32 + 1
+    }
 }
 
 // Hand over: the node is free, or on the list of the latest range.
-#[derive(Clone, Copy)]
+#[derive(Clone, Copy, Debug, PartialEq, Eq)]
 pub enum Handed {
     Freed,
     Held,
-    Refused(u32),
-}
-
-// Ceil, floor, succ, pred: the key.
-#[derive(Clone, Copy)]
-pub enum Nearest {
-    Key(i64),
-    Refused(u32),
-}
-
-// Fast range: how many pairs stand in the buffers.
-#[derive(Clone, Copy)]
-pub enum Ranged {
-    Pairs(u32),
-    Refused(u32),
-}
-
-// Open: the version, which names the ticket.
-#[derive(Clone, Copy)]
-pub enum Opened {
-    At(Version),
-    Refused(u32),
 }
 
 // Step: how many pairs stand in the buffers, and whether none is left.
-#[derive(Clone, Copy)]
-pub enum Stepped {
-    Pairs(u32, bool),
-    Refused(u32),
-}
-
-// Close: how many nodes it made due.
-#[derive(Clone, Copy)]
-pub enum Closed {
-    Due(u32),
-    Refused(u32),
+#[derive(Clone, Copy, Debug, PartialEq, Eq)]
+pub struct Stepped {
+    pub pairs: u32,
+    pub finished: bool,
 }
 
 // Sweep: how many nodes it freed, 0 or 1, and how many stay due.
-#[derive(Clone, Copy)]
-pub enum Swept {
-    Nodes(u32, u32),
-    Refused(u32),
+#[derive(Clone, Copy, Debug, PartialEq, Eq)]
+pub struct Swept {
+    pub freed: u32,
+    pub due: u32,
 }
 
 // Tally: present, held and free nodes.
-#[derive(Clone, Copy)]
-pub enum Tallied {
-    Counts(u32, u32, u32),
-    Refused(u32),
+#[derive(Clone, Copy, Debug, PartialEq, Eq)]
+pub struct Tallied {
+    pub present: u32,
+    pub held: u32,
+    pub free: u32,
 }

@@ -1,21 +1,19 @@
--- Laws of the table: its rule at each entry, from one test of the whole table; and the search as a loop does it.
+-- Laws of the table: its rule at each entry, from one test of the whole table; and the search as the first entry of the capacity.
 -- Assumes nothing.
-use Prim.Native.Nat.{ℕ, zero, suc, ◌+◌, ◌*◌, ◌^◌, ◌<◌, ◌≤◌}
-use mathlib.Core.Path.{◌≡◌, refl}
+use Prim.Native.Nat.{ℕ, ◌*◌, ◌^◌, ◌<◌, ◌≤◌}
+use mathlib.Core.Path.{◌≡◌, refl, ap}
 use mathlib.Core.Bool.{Bool, true, false}
 use mathlib.Core.List.{List, [], ◌∷◌}
-use lib.ListN.{length, get_or, drop}
-use lib.Seq.{drop-cons}
-use native.Mathlib.Numerals.{add-one}
 use lib.Dec.{T, leb, eqb, leb→le, eqb→eq}
-use borrow.Author.Tests.{eqb-true, eq-eqb, ne_eqb, le-leb}
+use borrow.Author.Tests.{eqb-true, le-leb}
 use native.Mathlib.Omega.{arith}
 use Rattle.lists.specs.Filters.{filter, empty, count}
 use Rattle.lists.specs.Members.{In}
 use Rattle.lists.proofs.Tallies.{filter_in, count_in_lem}
 use Rattle.sizes.specs.declared.Size.{Size}
-use Rattle.sizes.specs.declared.Sized.TheVariants.{Of, Nothing}
-use Rattle.sizes.specs.Sizes.{size, sizes, seek, size_of, is_prime, Rule, Ruled}
+use Rattle.std.specs.Prelude.{cond, Some}
+use Rattle.std.specs.List.{find}
+use Rattle.sizes.specs.Sizes.{sizes, seek, size_of, is_prime, Rule, Ruled}
 
 abbrev both : Bool → Bool → Bool
 both true b = b
@@ -87,38 +85,24 @@ rule s t =
       smallest = none_smaller s.capacity s.buckets (right (is_prime s.buckets) _ t7);
     }
 
-sought : (ss : List Size) → T (every ss) → (c : ℕ) (s : Size) → seek ss c ≡ Of s → Ruled s c
+sought : (ss : List Size) → T (every ss) → (c : ℕ) (s : Size) → seek ss c ≡ Some s → Ruled s c
 sought [] t c s e = let z : ◌≡◌ {A = ℕ} 0 1 = cc in absurd (omega arith)
 sought (x ∷ xs) t c s e = go (eqb x.capacity c) refl (sought xs (right (ruled x) (every xs) t) c s)
   where
-    go : (b : Bool) → eqb x.capacity c ≡ b → (seek xs c ≡ Of s → Ruled s c) → Ruled s c
+    go : (b : Bool) → eqb x.capacity c ≡ b → (seek xs c ≡ Some s → Ruled s c) → Ruled s c
     go true f r =
-        let g : Of x ≡ Of s = rw f at e in
+        let g : Some x ≡ Some s = rw f at e in
         let h : x ≡ s = cc in
         let w : Ruled x c = record { asked = eqb-true _ _ f; rule = rule x (left (ruled x) (every xs) t) } in
         rw h at w
     go false f r = r (rw f at e)
 
 -- LAW: the rule holds of each size that the table has. The test of the whole table is computed once, `tt`.
-pub size_rule : (c : ℕ) (s : Size) → size_of c ≡ Of s → Ruled s c
+pub size_rule : (c : ℕ) (s : Size) → size_of c ≡ Some s → Ruled s c
 unfolding size_of is_prime
 size_rule c s e = sought sizes tt c s e
 
--- the search from the place i on, as the loop does it
-abbrev pub nil : Size
-nil = size 0 0 0
-
-pub seek_here : (ss : List Size) (c i : ℕ) → i < length ss → (get_or ss i nil).capacity ≡ c → Of (get_or ss i nil) ≡ seek (drop i ss) c
-seek_here ss c i h e = rw (drop-cons ss i nil h, eq-eqb (get_or ss i nil).capacity c e)
-
-pub seek_next : (ss : List Size) (c i : ℕ) → i < length ss → ((get_or ss i nil).capacity ≡ c → ⊥) → seek (drop (i + 1) ss) c ≡ seek (drop i ss) c
-seek_next ss c i h e = rw (add-one, drop-cons ss i nil h, ne_eqb (get_or ss i nil).capacity c e)
-
-pub seek_none : (ss : List Size) (c i : ℕ) → length ss ≤ i → Nothing ≡ seek (drop i ss) c
-seek_none [] c i h = go i
-  where
-    go : (j : ℕ) → Nothing ≡ seek (drop j []) c
-    go zero = refl
-    go (suc j) = refl
-seek_none (s ∷ ss) c zero h = absurd (omega arith)
-seek_none (s ∷ ss) c (suc i) h = seek_none ss c i (omega arith)
+-- the search is the first entry of the capacity
+pub seek_finds : (ss : List Size) (c : ℕ) → find (λ (s : Size). eqb s.capacity c) ss ≡ seek ss c
+seek_finds [] c = refl
+seek_finds (s ∷ ss) c = ap (cond (eqb s.capacity c) (Some s)) (seek_finds ss c)

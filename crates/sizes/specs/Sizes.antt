@@ -1,10 +1,8 @@
 -- The capacities, and the rule of the table: the capacity is two to the levels, and the buckets are the least prime number with which the fill is at most 7/10.
 -- Assumes nothing.
-use Rattle.std.specs.Prelude.{ℕ, ◌-◌, ◌*◌, ◌^◌, ◌%◌, ◌≤◌, ◌<◌, ◌≡◌, Bool, true, false, cond, List, [], ◌∷◌, eqb}
+use Rattle.std.specs.Prelude.{ℕ, ◌-◌, ◌*◌, ◌^◌, ◌%◌, ◌≤◌, ◌<◌, ◌≡◌, Bool, true, false, cond, Option, Some, None, List, [], ◌∷◌, eqb}
 use Rattle.lists.specs.Filters.{filter, empty, count}
 use Rattle.sizes.specs.declared.Size.{Size}
-use Rattle.sizes.specs.declared.Sized.{Sized}
-use Rattle.sizes.specs.declared.Sized.TheVariants.{Of, Nothing}
 
 abbrev pub size : ℕ → ℕ → ℕ → Size
 size c l b = record { capacity = c; levels = l; buckets = b }
@@ -22,11 +20,11 @@ sizes =
     ∷ []
 
 -- the entry of this capacity
-abbrev pub seek : List Size → ℕ → Sized
-seek [] c = Nothing
-seek (s ∷ ss) c = cond (eqb s.capacity c) (Of s) (seek ss c)
+abbrev pub seek : List Size → ℕ → Option Size
+seek [] c = None
+seek (s ∷ ss) c = cond (eqb s.capacity c) (Some s) (seek ss c)
 
-unfoldable pub size_of : ℕ → Sized
+unfoldable pub size_of : ℕ → Option Size
 size_of c = seek sizes c
 
 -- none of the numbers from 2 to n - 1 divides n

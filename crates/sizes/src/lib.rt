@@ -7,25 +7,20 @@ ghost use Rattle.sizes.specs.Rank.{rank_of, key_of, pattern_of, bucket_of};
 
 // A version, which is only ever compared with a version.
 #[repr(C)]
-#[derive(Clone, Copy)]
+#[derive(Clone, Copy, Debug, PartialEq, Eq, PartialOrd, Ord)]
 pub struct Version(pub u32);
 
 // The number of a node.
 #[repr(C)]
-#[derive(Clone, Copy)]
+#[derive(Clone, Copy, Debug, PartialEq, Eq)]
 pub struct Node(pub u32);
 
-#[derive(Clone, Copy)]
+// A capacity of the table, with its levels and its buckets.
+#[derive(Clone, Copy, Debug, PartialEq, Eq)]
 pub struct Size {
     pub capacity: u32,
     pub levels: u32,
     pub buckets: u32,
-}
-
-#[derive(Clone, Copy)]
-pub enum Sized {
-    Of(Size),
-    Nothing,
 }
 
 const SIZES: [Size; 7] = [
@@ -67,18 +62,10 @@ const SIZES: [Size; 7] = [
 ];
 
 // The size of this capacity, if the table has it.
-pub fn size_of(capacity: u32) -> Sized
+pub fn size_of(capacity: u32) -> Option<Size>
     ensures { result ≡ size_of capacity }
 {
-    let mut i = 0;
-    while i < 7 {
-        let s = SIZES[i];
-        if s.capacity == capacity {
-            return Sized::Of(s);
-        }
-        i += 1;
-    }
-    Sized::Nothing
+    SIZES.iter().find(|s| s.capacity == capacity).copied()
 }
 
 // The rank of a signed key: unsigned, in the same order.
@@ -137,55 +124,20 @@ fn remainder(p: u64, m: u64) -> usize
     let high = p / 4294967296;
     let low = p % 4294967296;
     match m {
-        2927 => remainder_2927(high, low),
-        1471 => remainder_1471(high, low),
-        733 => remainder_733(high, low),
-        367 => remainder_367(high, low),
-        191 => remainder_191(high, low),
-        97 => remainder_97(high, low),
+        2927 => remainder_by::<2927, 1649>(high, low),
+        1471 => remainder_by::<1471, 336>(high, low),
+        733 => remainder_by::<733, 708>(high, low),
+        367 => remainder_by::<367, 60>(high, low),
+        191 => remainder_by::<191, 147>(high, low),
+        97 => remainder_by::<97, 35>(high, low),
         _ => (p % m) as usize,
     }
 }
 
-// Each of these: high * 2 ^ 32 + low modulo one size of the table, with what 2 ^ 32 leaves as the factor of high.
-fn remainder_2927(high: u64, low: u64) -> usize
-    requires { (high < 4294967296) × (low < 4294967296) }
-    ensures { result ≡ (high * 4294967296 + low) % 2927 }
+// high * 2 ^ 32 + low modulo M, a size of the table: FACTOR is what 2 ^ 32 leaves.
+fn remainder_by<const M: u64, const FACTOR: u64>(high: u64, low: u64) -> usize
+    requires { (high < 4294967296) × (low < 4294967296) × (FACTOR ≡ 4294967296 % M) × (0 < M) × (M < 4294967296) }
+    ensures { result ≡ (high * 4294967296 + low) % M }
 {
-    ((high * 1649 + low) % 2927) as usize
-}
-
-fn remainder_1471(high: u64, low: u64) -> usize
-    requires { (high < 4294967296) × (low < 4294967296) }
-    ensures { result ≡ (high * 4294967296 + low) % 1471 }
-{
-    ((high * 336 + low) % 1471) as usize
-}
-
-fn remainder_733(high: u64, low: u64) -> usize
-    requires { (high < 4294967296) × (low < 4294967296) }
-    ensures { result ≡ (high * 4294967296 + low) % 733 }
-{
-    ((high * 708 + low) % 733) as usize
-}
-
-fn remainder_367(high: u64, low: u64) -> usize
-    requires { (high < 4294967296) × (low < 4294967296) }
-    ensures { result ≡ (high * 4294967296 + low) % 367 }
-{
-    ((high * 60 + low) % 367) as usize
-}
-
-fn remainder_191(high: u64, low: u64) -> usize
-    requires { (high < 4294967296) × (low < 4294967296) }
-    ensures { result ≡ (high * 4294967296 + low) % 191 }
-{
-    ((high * 147 + low) % 191) as usize
-}
-
-fn remainder_97(high: u64, low: u64) -> usize
-    requires { (high < 4294967296) × (low < 4294967296) }
-    ensures { result ≡ (high * 4294967296 + low) % 97 }
-{
-    ((high * 35 + low) % 97) as usize
+    ((high * FACTOR + low) % M) as usize
 }

@@ -1,18 +1,14 @@
-use mathlib.Core.Path.{refl, ◌∙◌}
-use native.Mathlib.Omega.{arith}
+-- `sizes::size_of` meets its contract.
+use Rattle.std.proofs.Common.{eqb, ◌∙◌, rules, tests}
+use Rattle.std.proofs.lemmas.Iterator.{YieldsList-from_slice}
+use Rattle.std.proofs.lemmas.Iterator.Search.{find_from_yields_List}
 use Rattle.sizes.specs.Sizes.{sizes, size_of}
-use Rattle.sizes.proofs.Sizing.{seek_here, seek_next, seek_none}
+use Rattle.sizes.proofs.Sizing.{seek_finds}
 use Rattle.sizes.proofs.size_of.Goals as goal
 
-pub loop-i-init : goal.loop-i-init
-unfolding size_of
-loop-i-init c = (omega arith, refl)
-
-pub returns-then-s-capacity : goal.returns-then-s-capacity
-returns-then-s-capacity c = seek_here sizes _ _ c.loop-i-test.true c.if-s-capacity.true ∙ c.loop-i.invariant.1
-
-pub loop-i-preserved : goal.loop-i-preserved
-loop-i-preserved c = (omega arith, seek_next sizes _ _ c.loop-i-test.true c.if-s-capacity.false ∙ c.loop-i.invariant.1)
-
 pub returns : goal.returns
-returns c = seek_none sizes _ _ c.loop-i-test.false ∙ c.loop-i.invariant.1
+unfolding size_of
+returns c =
+    c.copied.ensures
+    ∙ find_from_yields_List (λ s. eqb s.capacity c.args.capacity) _ _ c.find.result c.find.ensures.ran (YieldsList-from_slice sizes cc) (λ x b q k. search (rules, tests))
+    ∙ seek_finds sizes c.args.capacity
