@@ -1,5 +1,8 @@
 -- The calls of a list that hand out pairs, on sound tables: a fast range and a step.
 -- Assumes nothing.
+use Rattle.std.specs.Prelude.{Result, Ok, Err}
+use Rattle.model.specs.declared.Refusal.{Refusal}
+use Rattle.model.specs.declared.Refusal.TheVariants.{BoundsReversed, TooManyPairs, TooFewPlaces}
 use mathlib.Core.Path.{◌≡◌, refl, sym, ap, ◌∙◌, subst}
 use mathlib.Core.Bool.{Bool, true, false, cond}
 use mathlib.Core.List.{List, [], ◌++◌, map, map-map}
@@ -20,7 +23,6 @@ use Rattle.model.specs.Plain.{Pair}
 use Rattle.model.specs.Calls as C
 use Rattle.model.specs.Model as M
 use Rattle.model.specs.Answers.{of_ranged, of_stepped}
-use Rattle.model.specs.declared.Ranged.{Ranged}
 use Rattle.model.specs.declared.Stepped.{Stepped}
 use Rattle.tables.specs.declared.Ticket.{Ticket}
 use Rattle.tables.specs.declared.Coordinator.{Coordinator}
@@ -41,13 +43,13 @@ use Rattle.batch.proofs.Parts.{front_written}
 use Rattle.batch.proofs.Turning.{turned_by, back, fits, told}
 
 -- the cells do not tell the pairs
-ranged_cells_lem : (ks vs : List ℤ) (r : Ranged) → cells_of 8 (of_ranged [] [] r) ≡ cells_of 8 (of_ranged ks vs r)
-ranged_cells_lem ks vs (Ranged.Pairs n) = refl
-ranged_cells_lem ks vs (Ranged.Refused n) = refl
+ranged_cells_lem : (ks vs : List ℤ) (r : Result ℕ Refusal) → cells_of 8 (of_ranged [] [] r) ≡ cells_of 8 (of_ranged ks vs r)
+ranged_cells_lem ks vs (Ok n) = refl
+ranged_cells_lem ks vs (Err n) = refl
 
 stepped_cells_lem : (ks vs : List ℤ) (r : Stepped) → cells_of 10 (of_stepped [] [] r) ≡ cells_of 10 (of_stepped ks vs r)
 stepped_cells_lem ks vs (Stepped.Pairs n finished) = refl
-stepped_cells_lem ks vs (Stepped.Refused n) = refl
+stepped_cells_lem ks vs (Err n) = refl
 
 -- the pairs of nodes are their keys and their values
 keys_pairs : (keys : List ℕ) (values : List ℤ) (ns : List ℕ) → keys_in (map (pair_at keys values []) ns) ≡ keys_of keys ns
@@ -66,16 +68,16 @@ turned_pairs {t = t} {ks = ks} {vs = vs} ns e m p q n l u w =
     (w ∙ ap (written vs 0) (sym (ap values_in q ∙ values_pairs t.keys t.values ns)))
 
 -- a fast range that answers hands out all its nodes
-Answers : Ranged → List ℕ → Type 0
-Answers (Ranged.Pairs n) ns = (n ≡ length ns) × (n ≤ room)
-Answers (Ranged.Refused n) ns = Unit {0}
+Answers : Result ℕ Refusal → List ℕ → Type 0
+Answers (Ok n) ns = (n ≡ length ns) × (n ≤ room)
+Answers (Err n) ns = Unit {0}
 
 fast_answers : (ns : List ℕ) (low high : ℤ) (places : ℕ) → Answers (fast_answer ns low high places) ns
 unfolding fast_answer Answers
 fast_answers ns low high places = go (lt_z high low) (ltb M.fast_limit (length ns)) (ltb places (length ns)) refl
   where
     go : (a b c : Bool) → ltb M.fast_limit (length ns) ≡ b
-        → Answers (cond a (Ranged.Refused 6) (cond b (Ranged.Refused 7) (cond c (Ranged.Refused 8) (Ranged.Pairs (length ns))))) ns
+        → Answers (cond a (Err BoundsReversed) (cond b (Err TooManyPairs) (cond c (Err TooFewPlaces) (Ok (length ns))))) ns
     go true b c e = tt
     go false true c e = tt
     go false false true e = tt
@@ -92,16 +94,16 @@ record Hands (keys : List ℕ) (values : List ℤ) (a : C.Answer) (count : ℕ) 
   counted : count ≡ length ns
   few : length ns ≤ room
 
-fast_hands : (keys : List ℕ) (values ks vs : List ℤ) (ns : List ℕ) (a : Ranged) → Answers a ns
+fast_hands : (keys : List ℕ) (values ks vs : List ℤ) (ns : List ℕ) (a : Result ℕ Refusal) → Answers a ns
     → Hands keys values (of_ranged (written ks 0 (keys_of keys (given a ns))) (written vs 0 (values_of values (given a ns))) a) (ranged_count a) (given a ns)
 unfolding Answers
-fast_hands keys values ks vs ns (Ranged.Pairs n) w =
+fast_hands keys values ks vs ns (Ok n) w =
     record {
       pairs = rw w.0 (paired_written (λ m. key_of (get_or keys m 0)) (λ m. get_or values m (pos 0)) ns ks vs);
       counted = w.0;
       few = omega (arith, w.0, w.1);
     }
-fast_hands keys values ks vs ns (Ranged.Refused n) w = record { pairs = refl; counted = refl; few = omega arith }
+fast_hands keys values ks vs ns (Err n) w = record { pairs = refl; counted = refl; few = omega arith }
 
 -- LAW: a fast range with the places of one call
 pub fast_turned : (t : Tables) → Sound t → (l h : ℤ) → mag l < 9223372036854775808 → mag h < 9223372036854775808 → {call : Call} → call ≡ Fast l h → (ks vs : List ℤ) → length ks ≡ room → length vs ≡ room

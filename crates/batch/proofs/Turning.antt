@@ -1,5 +1,7 @@
 -- Each call of a list on sound tables: what its code does is a turn of the list.
 -- Assumes nothing.
+use Rattle.std.specs.Prelude.{Result, Ok, Err}
+use Rattle.model.specs.declared.Refusal.{Refusal}
 use mathlib.Core.Path.{◌≡◌, refl, sym, ap, ◌∙◌}
 use mathlib.Core.Bool.{Bool}
 use mathlib.Core.List.{List, []}
@@ -20,13 +22,7 @@ use Rattle.transactions.specs.declared.Call.TheVariants.{Lookup, Insert, Remove,
 use Rattle.model.specs.Calls as C
 use Rattle.model.specs.Model as M
 use Rattle.model.specs.Answers.{of_found, of_inserted, of_removed, of_handed, of_nearest, of_opened, of_closed, of_swept, of_tallied}
-use Rattle.model.specs.declared.Found.{Found}
-use Rattle.model.specs.declared.Inserted.{Inserted}
-use Rattle.model.specs.declared.Removed.{Removed}
 use Rattle.model.specs.declared.Handed.{Handed}
-use Rattle.model.specs.declared.Nearest.{Nearest}
-use Rattle.model.specs.declared.Opened.{Opened}
-use Rattle.model.specs.declared.Closed.{Closed}
 use Rattle.model.specs.declared.Swept.{Swept}
 use Rattle.model.specs.declared.Tallied.{Tallied}
 use Rattle.tables.specs.Tables.{Tables, Sound, Met, capacity_of}
@@ -85,42 +81,42 @@ as_plain e p = rw e p
 
 -- ---- answers with no pairs
 
-no_found : (r : Found) → C.pairs_in (of_found r) ≡ []
-no_found (Found.Value x) = refl
-no_found (Found.Refused n) = refl
+no_found : (r : Result ℤ Refusal) → C.pairs_in (of_found r) ≡ []
+no_found (Ok x) = refl
+no_found (Err n) = refl
 
-no_inserted : (r : Inserted) → C.pairs_in (of_inserted r) ≡ []
-no_inserted (Inserted.At n) = refl
-no_inserted (Inserted.Refused n) = refl
+no_inserted : (r : Result Node Refusal) → C.pairs_in (of_inserted r) ≡ []
+no_inserted (Ok n) = refl
+no_inserted (Err n) = refl
 
-no_removed : (r : Removed) → C.pairs_in (of_removed r) ≡ []
-no_removed (Removed.At n) = refl
-no_removed (Removed.Refused n) = refl
+no_removed : (r : Result Node Refusal) → C.pairs_in (of_removed r) ≡ []
+no_removed (Ok n) = refl
+no_removed (Err n) = refl
 
 no_handed : (r : Handed) → C.pairs_in (of_handed r) ≡ []
 no_handed Handed.Freed = refl
 no_handed Handed.Held = refl
-no_handed (Handed.Refused n) = refl
+no_handed (Err n) = refl
 
-no_nearest : (r : Nearest) → C.pairs_in (of_nearest r) ≡ []
-no_nearest (Nearest.Key k) = refl
-no_nearest (Nearest.Refused n) = refl
+no_nearest : (r : Result ℤ Refusal) → C.pairs_in (of_nearest r) ≡ []
+no_nearest (Ok k) = refl
+no_nearest (Err n) = refl
 
-no_opened : (r : Opened) → C.pairs_in (of_opened r) ≡ []
-no_opened (Opened.At v) = refl
-no_opened (Opened.Refused n) = refl
+no_opened : (r : Result Version Refusal) → C.pairs_in (of_opened r) ≡ []
+no_opened (Ok v) = refl
+no_opened (Err n) = refl
 
-no_closed : (r : Closed) → C.pairs_in (of_closed r) ≡ []
-no_closed (Closed.Due n) = refl
-no_closed (Closed.Refused n) = refl
+no_closed : (r : Result ℕ Refusal) → C.pairs_in (of_closed r) ≡ []
+no_closed (Ok n) = refl
+no_closed (Err n) = refl
 
 no_swept : (r : Swept) → C.pairs_in (of_swept r) ≡ []
 no_swept (Swept.Nodes n d) = refl
-no_swept (Swept.Refused n) = refl
+no_swept (Err n) = refl
 
 no_tallied : (r : Tallied) → C.pairs_in (of_tallied r) ≡ []
 no_tallied (Tallied.Counts p h f) = refl
-no_tallied (Tallied.Refused n) = refl
+no_tallied (Err n) = refl
 
 -- ---- each call
 
@@ -153,7 +149,7 @@ module _ (t : Tables) (S : Sound t) (ks vs : List ℤ) where
   tally_turned q p = rw q (turned_plain {call = Tally} ks vs refl (tally_meets t S) p (no_tallied (tally_answer t)))
 
   pub insert_turned : (z v : ℤ) (coin : ℕ) → mag z < 9223372036854775808 → mag v < 9223372036854775808 → {call : Call} {cells : List ℤ} → call ≡ Insert z v coin
-      → {keys' : List ℕ} {values' : List ℤ} {rows' buckets' : List ℕ} {r : Inserted}
+      → {keys' : List ℕ} {values' : List ℤ} {rows' buckets' : List ℕ} {r : Result Node Refusal}
       → Inserts t.keys t.values t.rows t.buckets keys' values' rows' buckets' t.coordinator.counter.0 (back z) (back v) coin r → cells ≡ cells_of 1 (of_inserted r)
       → Turned t (tables_with t keys' values' rows' buckets') call ks vs ks vs cells 0
   unfolding turn_tables
@@ -163,7 +159,7 @@ module _ (t : Tables) (S : Sound t) (ks vs : List ℤ) where
       (turned_plain {call = Insert z v coin} ks vs (insert_cells t z v coin _ _ _ _ _ e) (insert_meets t S z v coin (fits z f))
       (p ∙ ap (λ x. cells_of 1 (of_inserted x)) e.answer) (no_inserted (insert_answer t.keys t.rows t.buckets z)))
 
-  pub remove_turned : (z : ℤ) → mag z < 9223372036854775808 → {call : Call} {cells : List ℤ} → call ≡ Remove z → {rows' buckets' : List ℕ} {r : Removed}
+  pub remove_turned : (z : ℤ) → mag z < 9223372036854775808 → {call : Call} {cells : List ℤ} → call ≡ Remove z → {rows' buckets' : List ℕ} {r : Result Node Refusal}
       → Removes t.keys t.rows t.buckets rows' buckets' t.coordinator.counter.0 (back z) r → cells ≡ cells_of 2 (of_removed r)
       → Turned t (tables_with t t.keys t.values rows' buckets') call ks vs ks vs cells 0
   unfolding turn_tables

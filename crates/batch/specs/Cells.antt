@@ -1,7 +1,8 @@
 -- An answer as five cells.
 -- Assumes nothing.
+use Rattle.std.specs.Prelude.{Result, Ok, Err}
+use Rattle.model.specs.declared.Refusal.{Refusal}
 use Rattle.std.specs.Prelude.{List, [], ◌∷◌, ℕ, get_or, ℤ, pos}
-use Rattle.model.specs.declared.Ranged.{Ranged}
 use Rattle.model.specs.declared.Stepped.{Stepped}
 use Rattle.model.specs.Calls.{Answer, refused, answered}
 
@@ -11,10 +12,10 @@ cells_of code (refused n) = pos code ∷ pos n ∷ pos 0 ∷ pos 0 ∷ pos 0 ∷
 cells_of code (answered xs ps) = pos code ∷ pos 0 ∷ get_or xs 0 (pos 0) ∷ get_or xs 1 (pos 0) ∷ get_or xs 2 (pos 0) ∷ []
 
 -- how many pairs a fast range, a step hands out
-abbrev pub ranged_count : Ranged → ℕ
-ranged_count (Ranged.Pairs n) = n
-ranged_count (Ranged.Refused n) = 0
+abbrev pub ranged_count : Result ℕ Refusal → ℕ
+ranged_count (Ok n) = n
+ranged_count (Err n) = 0
 
-abbrev pub stepped_count : Stepped → ℕ
-stepped_count (Stepped.Pairs n finished) = n
-stepped_count (Stepped.Refused n) = 0
+abbrev pub stepped_count : Result Stepped Refusal → ℕ
+stepped_count (Ok s) = s.pairs
+stepped_count (Err n) = 0

@@ -1,5 +1,7 @@
 -- One call of a list: what it asks of the model, and what it does to sound tables and to the places of the pair buffers that it is lent.
 -- Assumes nothing.
+use Rattle.std.specs.Prelude.{Result}
+use Rattle.model.specs.declared.Refusal.{Refusal}
 use Rattle.std.specs.Prelude.{◌≡◌, cond, List, [], ◌∷◌, ◌++◌, map, ℕ, min, ◌≤◌, length, get_or, take, drop, eqb, ℤ}
 use Rattle.std.specs.Int.Signed.{mag}
 use Rattle.lists.specs.Buffers.{written}
@@ -12,7 +14,6 @@ use Rattle.model.specs.Model as M
 use Rattle.tables.specs.Tables.{Tables, Met, view}
 use Rattle.model.specs.Answers.{of_handed, of_ranged, of_opened, of_stepped, of_closed, of_swept}
 use Rattle.model.specs.declared.Handed.{Handed}
-use Rattle.model.specs.declared.Ranged.{Ranged}
 use Rattle.returns.specs.HandOver.{handing_of, handed_tables, handed_rows, handed_tickets}
 use Rattle.returns.specs.Sweep.{sweeping, swept_rows, swept_due, with_due, swept_tables}
 use Rattle.ranges.specs.declared.Open as O
@@ -165,7 +166,7 @@ close_turn r = turn_of (cells_of 11 (of_closed r.answer)) 0 r.tickets r.coordina
 
 -- a fast range
 pub record FastReply (keys : List ℕ) (values : List ℤ) (rows : List ℕ) (counter : ℕ) (low high : ℤ) (ks vs ks' vs' : List ℤ) (r : Reply) : Type 0 where
-  pub answer : Ranged
+  pub answer : Result ℕ Refusal
   pub by : RangedBy keys values rows counter low high ks vs ks' vs' answer
   pub is : r ≡ reply_of (cells_of 8 (of_ranged [] [] answer)) (ranged_count answer)
 

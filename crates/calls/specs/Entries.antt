@@ -1,17 +1,14 @@
 -- The entry points' outcomes: the call, the tables afterwards and the answer on sound tables, and the refusal 1 on all others.
 -- Assumes nothing.
-use Rattle.std.specs.Prelude.{Bool, List, ℕ, ℤ}
-use Rattle.model.specs.declared.Found.{Found}
-use Rattle.model.specs.declared.Nearest.{Nearest}
+use Rattle.sizes.specs.declared.Node.{Node}
+use Rattle.sizes.specs.declared.Version.{Version}
+use Rattle.model.specs.declared.Refusal.{Refusal}
+use Rattle.model.specs.declared.Refusal.TheVariants.{NotSound}
+use Rattle.std.specs.Prelude.{Result, Ok, Err, Bool, List, ℕ, ℤ}
 use Rattle.model.specs.declared.Tallied.{Tallied}
-use Rattle.model.specs.declared.Inserted.{Inserted}
-use Rattle.model.specs.declared.Removed.{Removed}
 use Rattle.model.specs.declared.Handed.{Handed}
 use Rattle.model.specs.declared.Swept.{Swept}
-use Rattle.model.specs.declared.Closed.{Closed}
-use Rattle.model.specs.declared.Opened.{Opened}
 use Rattle.model.specs.declared.Stepped.{Stepped}
-use Rattle.model.specs.declared.Ranged.{Ranged}
 use Rattle.model.specs.Calls as C
 use Rattle.model.specs.Answers.{of_found, of_nearest, of_tallied, of_inserted, of_removed, of_handed, of_swept, of_closed, of_opened, of_stepped, of_ranged}
 use Rattle.tables.specs.Tables.{Tables}
@@ -35,35 +32,35 @@ abbrev pub itself : Tables → Tables
 itself t = t
 
 -- the calls that change nothing: t before, t' at exit, r the answer
-abbrev pub Looks : Tables → Tables → ℤ → Found → Type 0
-Looks t t' k r = Outcome itself of_found (C.lookup k) t t' t r (lookup_answer t k) (Found.Refused 1)
+abbrev pub Looks : Tables → Tables → ℤ → Result ℤ Refusal → Type 0
+Looks t t' k r = Outcome itself of_found (C.lookup k) t t' t r (lookup_answer t k) (Err NotSound)
 
 -- ceil, floor, succ and pred by their direction and whether the key itself counts
-abbrev pub Nears : Tables → Tables → ℤ → ℕ → Bool → Nearest → Type 0
-Nears t t' k d at r = Outcome itself of_nearest (nearest_call d at k) t t' t r (nearest_answer t k d at) (Nearest.Refused 1)
+abbrev pub Nears : Tables → Tables → ℤ → ℕ → Bool → Result ℤ Refusal → Type 0
+Nears t t' k d at r = Outcome itself of_nearest (nearest_call d at k) t t' t r (nearest_answer t k d at) (Err NotSound)
 
-abbrev pub Tallies : Tables → Tables → Tallied → Type 0
-Tallies t t' r = Outcome itself of_tallied C.tally t t' t r (tally_answer t) (Tallied.Refused 1)
+abbrev pub Tallies : Tables → Tables → Result Tallied Refusal → Type 0
+Tallies t t' r = Outcome itself of_tallied C.tally t t' t r (Ok (tally_answer t)) (Err NotSound)
 
 -- the calls that change the tables
-abbrev pub Inserts : Tables → Tables → ℤ → ℤ → ℕ → Inserted → Type 0
+abbrev pub Inserts : Tables → Tables → ℤ → ℤ → ℕ → Result Node Refusal → Type 0
 Inserts t t' k v coin r =
-    Outcome itself of_inserted (C.insert k v coin) t t' (insert_tables t k v coin) r (insert_answer t.keys t.rows t.buckets k) (Inserted.Refused 1)
+    Outcome itself of_inserted (C.insert k v coin) t t' (insert_tables t k v coin) r (insert_answer t.keys t.rows t.buckets k) (Err NotSound)
 
-abbrev pub Removes : Tables → Tables → ℤ → Removed → Type 0
-Removes t t' k r = Outcome itself of_removed (C.remove k) t t' (remove_tables t k) r (remove_answer t.keys t.rows t.buckets k) (Removed.Refused 1)
+abbrev pub Removes : Tables → Tables → ℤ → Result Node Refusal → Type 0
+Removes t t' k r = Outcome itself of_removed (C.remove k) t t' (remove_tables t k) r (remove_answer t.keys t.rows t.buckets k) (Err NotSound)
 
-abbrev pub HandsOver : Tables → Tables → ℕ → Handed → Type 0
-HandsOver t t' n r = Outcome itself of_handed (C.hand_over n) t t' (handed_tables (handing_of t n) t n) r (handing_of t n) (Handed.Refused 1)
+abbrev pub HandsOver : Tables → Tables → ℕ → Result Handed Refusal → Type 0
+HandsOver t t' n r = Outcome itself of_handed (C.hand_over n) t t' (handed_tables (handing_of t n) t n) r (handing_of t n) (Err NotSound)
 
-abbrev pub Sweeps : Tables → Tables → Swept → Type 0
-Sweeps t t' r = Outcome itself of_swept C.sweep t t' (swept_tables t.coordinator.due t) r (sweeping t.coordinator.due) (Swept.Refused 1)
+abbrev pub Sweeps : Tables → Tables → Result Swept Refusal → Type 0
+Sweeps t t' r = Outcome itself of_swept C.sweep t t' (swept_tables t.coordinator.due t) r (Ok (sweeping t.coordinator.due)) (Err NotSound)
 
-abbrev pub Closes : Tables → Tables → ℕ → Closed → Type 0
-Closes t t' v r = Outcome itself of_closed (C.close v) t t' (closed_tables t v) r (closing_of t v).answer (Closed.Refused 1)
+abbrev pub Closes : Tables → Tables → ℕ → Result ℕ Refusal → Type 0
+Closes t t' v r = Outcome itself of_closed (C.close v) t t' (closed_tables t v) r (closing_of t v).answer (Err NotSound)
 
-abbrev pub Opens : Tables → Tables → ℤ → ℤ → Opened → Type 0
-Opens t t' l h r = Outcome itself of_opened (C.«open» l h) t t' (opened_tables t l h) r (opening_of t l h).answer (Opened.Refused 1)
+abbrev pub Opens : Tables → Tables → ℤ → ℤ → Result Version Refusal → Type 0
+Opens t t' l h r = Outcome itself of_opened (C.«open» l h) t t' (opened_tables t l h) r (opening_of t l h).answer (Err NotSound)
 
 -- ---- the calls that hand out pairs: the pair buffers are lent too
 
@@ -86,19 +83,19 @@ values_laid t nodes vs = written vs 0 (values_of t.values nodes)
 abbrev pub stepped : Tables → ℕ → List ℤ → List ℤ → List ℕ
 stepped t v ks vs = step_given t.keys t.rows t.tickets t.coordinator.ranges v (room_of ks vs)
 
-abbrev pub Steps : Tables → List ℤ → List ℤ → Tables → List ℤ → List ℤ → ℕ → Stepped → Type 0
+abbrev pub Steps : Tables → List ℤ → List ℤ → Tables → List ℤ → List ℤ → ℕ → Result Stepped Refusal → Type 0
 Steps t ks vs t' ks' vs' v r =
     Outcome (λ (x : Lent). x.tables) (of_stepped (keys_laid t (stepped t v ks vs) ks) (values_laid t (stepped t v ks vs) vs)) (C.step v (room_of ks vs))
     (with t ks vs) (with t' ks' vs')
     (with (stepped_tables t v (room_of ks vs)) (keys_laid t (stepped t v ks vs) ks) (values_laid t (stepped t v ks vs) vs)) r
-    (stepping_of t v (room_of ks vs)).answer (Stepped.Refused 1)
+    (stepping_of t v (room_of ks vs)).answer (Err NotSound)
 
 -- the nodes whose pairs a fast range hands out
 abbrev pub fastly : Tables → ℤ → ℤ → List ℤ → List ℤ → List ℕ
 fastly t l h ks vs = fast_given t.keys t.rows t.coordinator.counter.0 l h (room_of ks vs)
 
-abbrev pub Ranges : Tables → List ℤ → List ℤ → List ℤ → List ℤ → ℤ → ℤ → Ranged → Type 0
+abbrev pub Ranges : Tables → List ℤ → List ℤ → List ℤ → List ℤ → ℤ → ℤ → Result ℕ Refusal → Type 0
 Ranges t ks vs ks' vs' l h r =
     Outcome (λ (x : Lent). x.tables) (of_ranged (keys_laid t (fastly t l h ks vs) ks) (values_laid t (fastly t l h ks vs) vs)) (C.fast l h (room_of ks vs))
     (with t ks vs) (with t ks' vs') (with t (keys_laid t (fastly t l h ks vs) ks) (values_laid t (fastly t l h ks vs) vs)) r
-    (fast_of t.keys t.rows t.coordinator.counter.0 l h (room_of ks vs)) (Ranged.Refused 1)
+    (fast_of t.keys t.rows t.coordinator.counter.0 l h (room_of ks vs)) (Err NotSound)

@@ -2,13 +2,12 @@
 #![tactic(auto)]
 
 ghost use Rattle.std.specs.Prelude.{true, false, ◌≤◌};
+ghost use Rattle.rows.specs.Columns.{way};
 ghost use Rattle.soundness.specs.Tested.{lent};
 ghost use Rattle.calls.specs.Entries.{Looks, Nears, Tallies, Inserts, Removes, HandsOver, Sweeps, Closes, Opens, Steps, Ranges};
 
-use model::{
-    Closed, Found, Handed, Inserted, Nearest, Opened, Ranged, Removed, Stepped, Swept, Tallied,
-};
-use returns::{HandOver, Sweep};
+use model::{Handed, Refusal, Stepped, Swept, Tallied};
+use rows::Direction;
 use sizes::{Node, Version};
 use soundness::sound;
 use tables::{Coordinator, Ticket};
@@ -19,14 +18,14 @@ pub fn lookup(
     values: &[i64],
     rows: &[u32],
     buckets: &[u32],
-    tickets: [Ticket; 16],
+    tickets: &[Ticket; 16],
     coordinator: Coordinator,
     key: i64,
-) -> Found
-    ensures { Looks (lent keys.now values.now rows.now buckets.now tickets coordinator) (lent keys.now values.now rows.now buckets.now tickets coordinator) key result }
+) -> Result<i64, Refusal>
+    ensures { Looks (lent keys.now values.now rows.now buckets.now tickets.now coordinator) (lent keys.now values.now rows.now buckets.now tickets.now coordinator) key result }
 {
     if !sound(keys, values, rows, buckets, tickets, coordinator) {
-        return Found::Refused(1);
+        return Err(Refusal::NotSound);
     }
     finds::lookup(keys, values, rows, buckets, key)
 }
@@ -37,17 +36,16 @@ fn nearest(
     values: &[i64],
     rows: &[u32],
     buckets: &[u32],
-    tickets: [Ticket; 16],
+    tickets: &[Ticket; 16],
     coordinator: Coordinator,
     key: i64,
-    d: usize,
+    d: Direction,
     at: bool,
-) -> Nearest
-    requires { d ≤ 1 }
-    ensures { Nears (lent keys.now values.now rows.now buckets.now tickets coordinator) (lent keys.now values.now rows.now buckets.now tickets coordinator) key d at result }
+) -> Result<i64, Refusal>
+    ensures { Nears (lent keys.now values.now rows.now buckets.now tickets.now coordinator) (lent keys.now values.now rows.now buckets.now tickets.now coordinator) key (way d) at result }
 {
     if !sound(keys, values, rows, buckets, tickets, coordinator) {
-        return Nearest::Refused(1);
+        return Err(Refusal::NotSound);
     }
     finds::nearest(keys, rows, buckets, key, d, at)
 }
@@ -58,11 +56,11 @@ pub fn ceil(
     values: &[i64],
     rows: &[u32],
     buckets: &[u32],
-    tickets: [Ticket; 16],
+    tickets: &[Ticket; 16],
     coordinator: Coordinator,
     key: i64,
-) -> Nearest
-    ensures { Nears (lent keys.now values.now rows.now buckets.now tickets coordinator) (lent keys.now values.now rows.now buckets.now tickets coordinator) key 0 true result }
+) -> Result<i64, Refusal>
+    ensures { Nears (lent keys.now values.now rows.now buckets.now tickets.now coordinator) (lent keys.now values.now rows.now buckets.now tickets.now coordinator) key 0 true result }
 {
     nearest(
         keys,
@@ -72,7 +70,7 @@ pub fn ceil(
         tickets,
         coordinator,
         key,
-        levels::AFTER,
+        Direction::After,
         true,
     )
 }
@@ -83,11 +81,11 @@ pub fn floor(
     values: &[i64],
     rows: &[u32],
     buckets: &[u32],
-    tickets: [Ticket; 16],
+    tickets: &[Ticket; 16],
     coordinator: Coordinator,
     key: i64,
-) -> Nearest
-    ensures { Nears (lent keys.now values.now rows.now buckets.now tickets coordinator) (lent keys.now values.now rows.now buckets.now tickets coordinator) key 1 true result }
+) -> Result<i64, Refusal>
+    ensures { Nears (lent keys.now values.now rows.now buckets.now tickets.now coordinator) (lent keys.now values.now rows.now buckets.now tickets.now coordinator) key 1 true result }
 {
     nearest(
         keys,
@@ -97,7 +95,7 @@ pub fn floor(
         tickets,
         coordinator,
         key,
-        levels::BEFORE,
+        Direction::Before,
         true,
     )
 }
@@ -108,11 +106,11 @@ pub fn succ(
     values: &[i64],
     rows: &[u32],
     buckets: &[u32],
-    tickets: [Ticket; 16],
+    tickets: &[Ticket; 16],
     coordinator: Coordinator,
     key: i64,
-) -> Nearest
-    ensures { Nears (lent keys.now values.now rows.now buckets.now tickets coordinator) (lent keys.now values.now rows.now buckets.now tickets coordinator) key 0 false result }
+) -> Result<i64, Refusal>
+    ensures { Nears (lent keys.now values.now rows.now buckets.now tickets.now coordinator) (lent keys.now values.now rows.now buckets.now tickets.now coordinator) key 0 false result }
 {
     nearest(
         keys,
@@ -122,7 +120,7 @@ pub fn succ(
         tickets,
         coordinator,
         key,
-        levels::AFTER,
+        Direction::After,
         false,
     )
 }
@@ -133,11 +131,11 @@ pub fn pred(
     values: &[i64],
     rows: &[u32],
     buckets: &[u32],
-    tickets: [Ticket; 16],
+    tickets: &[Ticket; 16],
     coordinator: Coordinator,
     key: i64,
-) -> Nearest
-    ensures { Nears (lent keys.now values.now rows.now buckets.now tickets coordinator) (lent keys.now values.now rows.now buckets.now tickets coordinator) key 1 false result }
+) -> Result<i64, Refusal>
+    ensures { Nears (lent keys.now values.now rows.now buckets.now tickets.now coordinator) (lent keys.now values.now rows.now buckets.now tickets.now coordinator) key 1 false result }
 {
     nearest(
         keys,
@@ -147,7 +145,7 @@ pub fn pred(
         tickets,
         coordinator,
         key,
-        levels::BEFORE,
+        Direction::Before,
         false,
     )
 }
@@ -158,15 +156,15 @@ pub fn tally(
     values: &[i64],
     rows: &[u32],
     buckets: &[u32],
-    tickets: [Ticket; 16],
+    tickets: &[Ticket; 16],
     coordinator: Coordinator,
-) -> Tallied
-    ensures { Tallies (lent keys.now values.now rows.now buckets.now tickets coordinator) (lent keys.now values.now rows.now buckets.now tickets coordinator) result }
+) -> Result<Tallied, Refusal>
+    ensures { Tallies (lent keys.now values.now rows.now buckets.now tickets.now coordinator) (lent keys.now values.now rows.now buckets.now tickets.now coordinator) result }
 {
     if !sound(keys, values, rows, buckets, tickets, coordinator) {
-        return Tallied::Refused(1);
+        return Err(Refusal::NotSound);
     }
-    finds::tally(rows, keys.len() as u32, coordinator.due)
+    Ok(finds::tally(rows, keys.len() as u32, coordinator.due))
 }
 
 // Insert: the key with its value; the coin makes its height.
@@ -175,16 +173,16 @@ pub fn insert(
     values: &mut [i64],
     rows: &mut [u32],
     buckets: &mut [u32],
-    tickets: [Ticket; 16],
+    tickets: &[Ticket; 16],
     coordinator: Coordinator,
     key: i64,
     value: i64,
     coin: u64,
-) -> Inserted
-    ensures { Inserts (lent keys.old values.old rows.old buckets.old tickets coordinator) (lent keys.new values.new rows.new buckets.new tickets coordinator) key value coin result }
+) -> Result<Node, Refusal>
+    ensures { Inserts (lent keys.old values.old rows.old buckets.old tickets.now coordinator) (lent keys.new values.new rows.new buckets.new tickets.now coordinator) key value coin result }
 {
     if !sound(keys, values, rows, buckets, tickets, coordinator) {
-        return Inserted::Refused(1);
+        return Err(Refusal::NotSound);
     }
     let counter = coordinator.counter;
     changes::insert(keys, values, rows, buckets, counter, key, value, coin)
@@ -196,14 +194,14 @@ pub fn remove(
     values: &[i64],
     rows: &mut [u32],
     buckets: &mut [u32],
-    tickets: [Ticket; 16],
+    tickets: &[Ticket; 16],
     coordinator: Coordinator,
     key: i64,
-) -> Removed
-    ensures { Removes (lent keys.now values.now rows.old buckets.old tickets coordinator) (lent keys.now values.now rows.new buckets.new tickets coordinator) key result }
+) -> Result<Node, Refusal>
+    ensures { Removes (lent keys.now values.now rows.old buckets.old tickets.now coordinator) (lent keys.now values.now rows.new buckets.new tickets.now coordinator) key result }
 {
     if !sound(keys, values, rows, buckets, tickets, coordinator) {
-        return Removed::Refused(1);
+        return Err(Refusal::NotSound);
     }
     let counter = coordinator.counter;
     changes::remove(keys, rows, buckets, counter, key)
@@ -215,17 +213,14 @@ pub fn hand_over(
     values: &[i64],
     rows: &mut [u32],
     buckets: &[u32],
-    tickets: [Ticket; 16],
+    tickets: &mut [Ticket; 16],
     coordinator: Coordinator,
     node: Node,
-) -> HandOver
-    ensures { HandsOver (lent keys.now values.now rows.old buckets.now tickets coordinator) (lent keys.now values.now rows.new buckets.now result.tickets coordinator) node.0 result.answer }
+) -> Result<Handed, Refusal>
+    ensures { HandsOver (lent keys.now values.now rows.old buckets.now tickets.old coordinator) (lent keys.now values.now rows.new buckets.now tickets.new coordinator) node.0 result }
 {
     if !sound(keys, values, rows, buckets, tickets, coordinator) {
-        return HandOver {
-            answer: Handed::Refused(1),
-            tickets,
-        };
+        return Err(Refusal::NotSound);
     }
     returns::hand_over(rows, keys.len() as u32, tickets, coordinator.ranges, node)
 }
@@ -236,18 +231,15 @@ pub fn sweep(
     values: &[i64],
     rows: &mut [u32],
     buckets: &[u32],
-    tickets: [Ticket; 16],
-    coordinator: Coordinator,
-) -> Sweep
-    ensures { Sweeps (lent keys.now values.now rows.old buckets.now tickets coordinator) (lent keys.now values.now rows.new buckets.now tickets result.coordinator) result.answer }
+    tickets: &[Ticket; 16],
+    coordinator: &mut Coordinator,
+) -> Result<Swept, Refusal>
+    ensures { Sweeps (lent keys.now values.now rows.old buckets.now tickets.now coordinator.old) (lent keys.now values.now rows.new buckets.now tickets.now coordinator.new) result }
 {
-    if !sound(keys, values, rows, buckets, tickets, coordinator) {
-        return Sweep {
-            answer: Swept::Refused(1),
-            coordinator,
-        };
+    if !sound(keys, values, rows, buckets, tickets, *coordinator) {
+        return Err(Refusal::NotSound);
     }
-    returns::sweep_one(rows, keys.len() as u32, coordinator)
+    Ok(returns::sweep_one(rows, keys.len() as u32, coordinator))
 }
 
 // Open: a range with these bounds; the answer is its version.
@@ -256,19 +248,15 @@ pub fn open_range(
     values: &[i64],
     rows: &[u32],
     buckets: &[u32],
-    tickets: [Ticket; 16],
-    coordinator: Coordinator,
+    tickets: &mut [Ticket; 16],
+    coordinator: &mut Coordinator,
     low: i64,
     high: i64,
-) -> ranges::Open
-    ensures { Opens (lent keys.now values.now rows.now buckets.now tickets coordinator) (lent keys.now values.now rows.now buckets.now result.tickets result.coordinator) low high result.answer }
+) -> Result<Version, Refusal>
+    ensures { Opens (lent keys.now values.now rows.now buckets.now tickets.old coordinator.old) (lent keys.now values.now rows.now buckets.now tickets.new coordinator.new) low high result }
 {
-    if !sound(keys, values, rows, buckets, tickets, coordinator) {
-        return ranges::Open {
-            answer: Opened::Refused(1),
-            tickets,
-            coordinator,
-        };
+    if !sound(keys, values, rows, buckets, tickets, *coordinator) {
+        return Err(Refusal::NotSound);
     }
     ranges::open_range(keys, rows, buckets, tickets, coordinator, low, high)
 }
@@ -279,18 +267,14 @@ pub fn close_range(
     values: &[i64],
     rows: &[u32],
     buckets: &[u32],
-    tickets: [Ticket; 16],
-    coordinator: Coordinator,
+    tickets: &mut [Ticket; 16],
+    coordinator: &mut Coordinator,
     version: Version,
-) -> ranges::Close
-    ensures { Closes (lent keys.now values.now rows.now buckets.now tickets coordinator) (lent keys.now values.now rows.now buckets.now result.tickets result.coordinator) version.0 result.answer }
+) -> Result<u32, Refusal>
+    ensures { Closes (lent keys.now values.now rows.now buckets.now tickets.old coordinator.old) (lent keys.now values.now rows.now buckets.now tickets.new coordinator.new) version.0 result }
 {
-    if !sound(keys, values, rows, buckets, tickets, coordinator) {
-        return ranges::Close {
-            answer: Closed::Refused(1),
-            tickets,
-            coordinator,
-        };
+    if !sound(keys, values, rows, buckets, tickets, *coordinator) {
+        return Err(Refusal::NotSound);
     }
     ranges::close_range(tickets, coordinator, version)
 }
@@ -301,19 +285,16 @@ pub fn step_range(
     values: &[i64],
     rows: &[u32],
     buckets: &[u32],
-    tickets: [Ticket; 16],
+    tickets: &mut [Ticket; 16],
     coordinator: Coordinator,
     version: Version,
     out_keys: &mut [i64],
     out_values: &mut [i64],
-) -> ranges::Step
-    ensures { Steps (lent keys.now values.now rows.now buckets.now tickets coordinator) out_keys.old out_values.old (lent keys.now values.now rows.now buckets.now result.tickets coordinator) out_keys.new out_values.new version.0 result.answer }
+) -> Result<Stepped, Refusal>
+    ensures { Steps (lent keys.now values.now rows.now buckets.now tickets.old coordinator) out_keys.old out_values.old (lent keys.now values.now rows.now buckets.now tickets.new coordinator) out_keys.new out_values.new version.0 result }
 {
     if !sound(keys, values, rows, buckets, tickets, coordinator) {
-        return ranges::Step {
-            answer: Stepped::Refused(1),
-            tickets,
-        };
+        return Err(Refusal::NotSound);
     }
     ranges::step_range(
         keys,
@@ -333,17 +314,17 @@ pub fn fast_range(
     values: &[i64],
     rows: &[u32],
     buckets: &[u32],
-    tickets: [Ticket; 16],
+    tickets: &[Ticket; 16],
     coordinator: Coordinator,
     low: i64,
     high: i64,
     out_keys: &mut [i64],
     out_values: &mut [i64],
-) -> Ranged
-    ensures { Ranges (lent keys.now values.now rows.now buckets.now tickets coordinator) out_keys.old out_values.old out_keys.new out_values.new low high result }
+) -> Result<u32, Refusal>
+    ensures { Ranges (lent keys.now values.now rows.now buckets.now tickets.now coordinator) out_keys.old out_values.old out_keys.new out_values.new low high result }
 {
     if !sound(keys, values, rows, buckets, tickets, coordinator) {
-        return Ranged::Refused(1);
+        return Err(Refusal::NotSound);
     }
     let counter = coordinator.counter;
     ranges::fast_range(

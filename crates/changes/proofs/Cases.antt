@@ -1,5 +1,7 @@
 -- What insert and remove rely on, and their answers, as the code comes to them.
 -- Assumes nothing.
+use Rattle.std.specs.Prelude.{Ok, Err, Some, None, Option}
+use Rattle.model.specs.declared.Refusal.TheVariants.{KeyPresent, KeyAbsent, NoFreeNode}
 use mathlib.Core.Path.{◌≡◌, refl, sym, ap, ◌∙◌}
 use mathlib.Core.List.{List, [], ◌∷◌}
 use Prim.Native.Nat.{ℕ, ◌≤◌, ◌<◌}
@@ -11,13 +13,10 @@ use mir.Val.{SFits, to_z, of_z}
 use mir.ValLaws.{to_z-of_z}
 use Rattle.lists.specs.Filters.{head_or}
 use Rattle.sizes.specs.Rank.{rank_of}
-use Rattle.buckets.specs.declared.Found.{Found}
 use Rattle.buckets.specs.Finding.{found, Holds}
 use Rattle.buckets.proofs.Finding.{finds}
 use Rattle.places.specs.Places.{Sized, free_of, first_free}
 use Rattle.places.proofs.Freeing.{drawn_node}
-use Rattle.model.specs.declared.Inserted.{Inserted}
-use Rattle.model.specs.declared.Removed.{Removed}
 use Rattle.model.specs.Model.{height_of}
 use Rattle.tables.specs.Tables.{node, levels_of}
 use Rattle.tables.proofs.Capacities.{capacity}
@@ -30,7 +29,7 @@ pub rank_is : {rank : ℕ} (key : ℤ) → SFits w64 key → rank ≡ rank_of (t
 rank_is key f e = e ∙ ap rank_of (to_z-of_z w64 key f)
 
 -- what `find` answered
-pub find_is : {rank : ℕ} {r x : Found} (keys rows buckets : List ℕ) (key : ℤ) → r ≡ found keys rows buckets (length keys) rank → rank ≡ rank_of key → r ≡ x
+pub find_is : {rank : ℕ} {r x : Option ℕ} (keys rows buckets : List ℕ) (key : ℤ) → r ≡ found keys rows buckets (length keys) rank → rank ≡ rank_of key → r ≡ x
     → found keys rows buckets (length keys) (rank_of key) ≡ x
 find_is keys rows buckets key e f g = rw (← f, ← e) g
 
@@ -71,37 +70,37 @@ pub spare_is : {count : ℕ} (rows : List ℕ) (cap : ℕ) → count ≡ length 
 spare_is rows cap e d = omega arith
 
 module _ (keys rows buckets : List ℕ) (key : ℤ) where
-  pub insert_present : (n : ℕ) → found keys rows buckets (length keys) (rank_of key) ≡ Found.At n → insert_answer keys rows buckets key ≡ Inserted.Refused 3
+  pub insert_present : (n : ℕ) → found keys rows buckets (length keys) (rank_of key) ≡ Some n → insert_answer keys rows buckets key ≡ Err KeyPresent
   unfolding insert_answer
   insert_present n e = rw e
 
-  pub insert_full : found keys rows buckets (length keys) (rank_of key) ≡ Found.Nothing → length (free_of rows (length keys)) ≡ 0 → insert_answer keys rows buckets key ≡ Inserted.Refused 5
+  pub insert_full : found keys rows buckets (length keys) (rank_of key) ≡ None → length (free_of rows (length keys)) ≡ 0 → insert_answer keys rows buckets key ≡ Err NoFreeNode
   unfolding insert_answer
   insert_full e z = rw e (go (free_of rows (length keys)) z)
     where
-      go : (xs : List ℕ) → length xs ≡ 0 → insert_case Found.Nothing xs ≡ Inserted.Refused 5
+      go : (xs : List ℕ) → length xs ≡ 0 → insert_case None xs ≡ Err NoFreeNode
       go [] z = refl
       go (x ∷ xs) z = absurd (omega arith)
 
-  pub insert_takes : found keys rows buckets (length keys) (rank_of key) ≡ Found.Nothing → 0 < length (free_of rows (length keys))
-      → insert_answer keys rows buckets key ≡ Inserted.At (node (first_free rows (length keys)))
+  pub insert_takes : found keys rows buckets (length keys) (rank_of key) ≡ None → 0 < length (free_of rows (length keys))
+      → insert_answer keys rows buckets key ≡ Ok (node (first_free rows (length keys)))
   unfolding insert_answer
   insert_takes e z = rw e (go (free_of rows (length keys)) z)
     where
-      go : (xs : List ℕ) → 0 < length xs → insert_case Found.Nothing xs ≡ Inserted.At (node (head_or xs 0))
+      go : (xs : List ℕ) → 0 < length xs → insert_case None xs ≡ Ok (node (head_or xs 0))
       go [] z = absurd (omega arith)
       go (x ∷ xs) z = refl
 
   -- ---- remove
 
-  pub remove_finds : (n : ℕ) → found keys rows buckets (length keys) (rank_of key) ≡ Found.At n → remove_answer keys rows buckets key ≡ Removed.At (node n)
+  pub remove_finds : (n : ℕ) → found keys rows buckets (length keys) (rank_of key) ≡ Some n → remove_answer keys rows buckets key ≡ Ok (node n)
   unfolding remove_answer
   remove_finds n e = rw e
 
-  pub remove_lacks : found keys rows buckets (length keys) (rank_of key) ≡ Found.Nothing → remove_answer keys rows buckets key ≡ Removed.Refused 4
+  pub remove_lacks : found keys rows buckets (length keys) (rank_of key) ≡ None → remove_answer keys rows buckets key ≡ Err KeyAbsent
   unfolding remove_answer
   remove_lacks e = rw e
 
 -- LAW: the node that the buckets find has the rank
-pub remove_holds : {r : Found} {keys rows buckets : List ℕ} {rank n : ℕ} → RemoveReady keys rows buckets → r ≡ found keys rows buckets (length keys) rank → r ≡ Found.At n → Holds keys rows (length keys) rank n
+pub remove_holds : {r : Option ℕ} {keys rows buckets : List ℕ} {rank n : ℕ} → RemoveReady keys rows buckets → r ≡ found keys rows buckets (length keys) rank → r ≡ Some n → Holds keys rows (length keys) rank n
 remove_holds {keys = keys} {rows = rows} {buckets = buckets} {rank = rank} r e f = finds keys rows buckets (length keys) r.hashed rank (sym f ∙ e)

@@ -1,5 +1,9 @@
 -- Insert on sound tables: what its code requires holds, and what it leaves is the model's next state and sound again.
 -- Assumes nothing.
+use Rattle.std.specs.Prelude.{Result, Ok, Err, Some, None, Option as Optional}
+use Rattle.sizes.specs.declared.Node.{Node}
+use Rattle.model.specs.declared.Refusal.{Refusal}
+use Rattle.model.specs.declared.Refusal.TheVariants.{KeyPresent, NoFreeNode}
 use mathlib.Core.Path.{◌≡◌, refl, sym, ap, ap₂, ◌∙◌}
 use mathlib.Core.Logic.{◌≢◌}
 use mathlib.Core.Bool.{true, false}
@@ -25,13 +29,11 @@ use Rattle.rows.proofs.Columns.{upd_same, upd_other}
 use Rattle.levels.specs.Levels.{order_of}
 use Rattle.levels.specs.Search.{up_to, above, Rising}
 use Rattle.levels.proofs.Searching.{split_rank, up_to_le, above_lt}
-use Rattle.buckets.specs.declared.Found.{Found}
 use Rattle.buckets.specs.Buckets.{Buckets}
 use Rattle.buckets.specs.Finding.{found}
 use Rattle.buckets.proofs.Framing.{with_buckets}
 use Rattle.buckets.proofs.Keeping.{buckets_added}
 use Rattle.places.specs.Places.{free_of, first_free}
-use Rattle.model.specs.declared.Inserted.{Inserted}
 use Rattle.model.specs.Plain.{Pair, get}
 use Rattle.model.specs.Calls.{insert, refused}
 use Rattle.model.specs.Answers.{of_inserted}
@@ -152,21 +154,21 @@ module _ (t : Tables) (S : Sound t) (k v : ℤ) (coin : ℕ) (f : SFits w64 k) w
   abbrev size : ℕ
   size = capacity_of t
 
-  abbrev Goal : Inserted → Type 0
+  abbrev Goal : Result Node Refusal → Type 0
   Goal r = Met t (insert_to t k v coin r) (insert k v coin) (of_inserted r)
 
-  finish : (r : Inserted) → insert_answer t.keys t.rows t.buckets k ≡ r → Goal r
+  finish : (r : Result Node Refusal) → insert_answer t.keys t.rows t.buckets k ≡ r → Goal r
       → Met t (insert_tables t k v coin) (insert k v coin) (of_inserted (insert_answer t.keys t.rows t.buckets k))
   finish r e g = rw e g
 
-  present : (n : ℕ) → found t.keys t.rows t.buckets size (rank_of k) ≡ Found.At n → Goal (Inserted.Refused 3)
+  present : (n : ℕ) → found t.keys t.rows t.buckets size (rank_of k) ≡ Some n → Goal (Err KeyPresent)
   present n e = met_same t (insert k v coin) (refused 3) S (refuse_present (view t) k v coin _ (found_get t S k f n e))
 
-  full : found t.keys t.rows t.buckets size (rank_of k) ≡ Found.Nothing → free_of t.rows size ≡ [] → Goal (Inserted.Refused 5)
+  full : found t.keys t.rows t.buckets size (rank_of k) ≡ None → free_of t.rows size ≡ [] → Goal (Err NoFreeNode)
   unfolding view
   full e z = met_same t (insert k v coin) (refused 5) S (refuse_full (view t) k v coin (lost_get t S k f e) z)
 
-  module _ (lost : found t.keys t.rows t.buckets size (rank_of k) ≡ Found.Nothing) (spare : 0 < length (free_of t.rows size)) where
+  module _ (lost : found t.keys t.rows t.buckets size (rank_of k) ≡ None) (spare : 0 < length (free_of t.rows size)) where
     abbrev n : ℕ
     n = first_free t.rows size
 
@@ -180,7 +182,7 @@ module _ (t : Tables) (S : Sound t) (k v : ℤ) (coin : ℕ) (f : SFits w64 k) w
     D = link_done (rank_of k) t.coordinator.counter.0 (insert_linkable (insert_ready t S) coin refl refl spare)
 
     abbrev t' : Tables
-    t' = insert_to t k v coin (Inserted.At (node n))
+    t' = insert_to t k v coin (Ok (node n))
 
     long : capacity_of t' ≡ size
     long = length-set t.keys n (rank_of k)
@@ -210,12 +212,12 @@ module _ (t : Tables) (S : Sound t) (k v : ℤ) (coin : ℕ) (f : SFits w64 k) w
         D.placed
         refl
 
-    linked : Goal (Inserted.At (node n))
+    linked : Goal (Ok (node n))
     unfolding view
     linked =
-        met t t' (insert k v coin) (of_inserted (Inserted.At (node n))) S lengths (rw long memory) (rw long hashed) S.few (rw long S.resting)
+        met t t' (insert k v coin) (of_inserted (Ok (node n))) S lengths (rw long memory) (rw long hashed) S.few (rw long S.resting)
         (insert_links (view t) k v coin n (free_of after size) (lost_get t S k f lost) D.free
-        ∙ ap (λ (s : M.State). (s, of_inserted (Inserted.At (node n))))
+        ∙ ap (λ (s : M.State). (s, of_inserted (Ok (node n))))
         (view_changed t t' _ _ long refl refl
         (shows_stitched t.keys t.values t.rows t.buckets after (levels_of size) (rank_of k) height t.coordinator.counter.0 n S.lengths.values (sound_rising t S) D k v (key_rank k f))
         refl D.ring))
@@ -224,16 +226,16 @@ module _ (t : Tables) (S : Sound t) (k v : ℤ) (coin : ℕ) (f : SFits w64 k) w
   pub insert_meets : Met t (insert_tables t k v coin) (insert k v coin) (of_inserted (insert_answer t.keys t.rows t.buckets k))
   insert_meets = go (found t.keys t.rows t.buckets size (rank_of k)) refl (free_of t.rows size) refl
     where
-      go : (r : Found) → found t.keys t.rows t.buckets size (rank_of k) ≡ r → (is : List ℕ) → free_of t.rows size ≡ is
+      go : (r : Optional ℕ) → found t.keys t.rows t.buckets size (rank_of k) ≡ r → (is : List ℕ) → free_of t.rows size ≡ is
           → Met t (insert_tables t k v coin) (insert k v coin) (of_inserted (insert_answer t.keys t.rows t.buckets k))
-      go (Found.At n) e is z = finish (Inserted.Refused 3) (insert_present t.keys t.rows t.buckets k n e) (present n e)
-      go Found.Nothing e [] z = finish (Inserted.Refused 5) (insert_full t.keys t.rows t.buckets k e (ap length z)) (full e z)
-      go Found.Nothing e (i ∷ is) z =
+      go (Some n) e is z = finish (Err KeyPresent) (insert_present t.keys t.rows t.buckets k n e) (present n e)
+      go None e [] z = finish (Err NoFreeNode) (insert_full t.keys t.rows t.buckets k e (ap length z)) (full e z)
+      go None e (i ∷ is) z =
           let some : 0 < length (free_of t.rows size) = rw z (omega arith) in
-          finish (Inserted.At (node (first_free t.rows size))) (insert_takes t.keys t.rows t.buckets k e some) (linked e some)
+          finish (Ok (node (first_free t.rows size))) (insert_takes t.keys t.rows t.buckets k e some) (linked e some)
 
 -- LAW: what the code ensures, told of all the tables: it is a function of them, and meets the model
-module _ (t : Tables) (k v : ℤ) (coin : ℕ) (keys' : List ℕ) (values' : List ℤ) (rows' buckets' : List ℕ) (r : Inserted)
+module _ (t : Tables) (k v : ℤ) (coin : ℕ) (keys' : List ℕ) (values' : List ℤ) (rows' buckets' : List ℕ) (r : Result Node Refusal)
     (d : Inserts t.keys t.values t.rows t.buckets keys' values' rows' buckets' t.coordinator.counter.0 k v coin r) where
   pub insert_cells : tables_with t keys' values' rows' buckets' ≡ insert_tables t k v coin
   insert_cells = rw (d.to_keys, d.to_values, d.to_rows, d.to_buckets, d.answer)

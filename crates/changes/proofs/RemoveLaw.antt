@@ -1,5 +1,9 @@
 -- Remove on sound tables: what its code requires holds, and what it leaves is the model's next state and sound again.
 -- Assumes nothing.
+use Rattle.std.specs.Prelude.{Result, Ok, Err, Some, None, Option}
+use Rattle.sizes.specs.declared.Node.{Node}
+use Rattle.model.specs.declared.Refusal.{Refusal}
+use Rattle.model.specs.declared.Refusal.TheVariants.{KeyAbsent}
 use mathlib.Core.Path.{◌≡◌, refl, ap, ◌∙◌}
 use mathlib.Core.Logic.{◌≢◌, by_cases}
 use mathlib.Core.List.{List, [], map}
@@ -17,12 +21,10 @@ use Rattle.rows.specs.Rows.{heights, removals, places}
 use Rattle.rows.proofs.Columns.{upd_same, upd_other}
 use Rattle.levels.specs.Levels.{order_of}
 use Rattle.levels.proofs.Orders.{order_kept, linked_kept}
-use Rattle.buckets.specs.declared.Found.{Found}
 use Rattle.buckets.specs.Buckets.{Buckets}
 use Rattle.buckets.specs.Finding.{found, Holds}
 use Rattle.buckets.proofs.Framing.{without_buckets}
 use Rattle.buckets.proofs.Keeping.{buckets_dropped}
-use Rattle.model.specs.declared.Removed.{Removed}
 use Rattle.model.specs.Calls.{remove, refused}
 use Rattle.model.specs.Answers.{of_removed}
 use Rattle.model.specs.Model as M
@@ -77,18 +79,18 @@ module _ (t : Tables) (S : Sound t) (k : ℤ) (f : SFits w64 k) where
   abbrev size : ℕ
   size = capacity_of t
 
-  abbrev Goal : Removed → Type 0
+  abbrev Goal : Result Node Refusal → Type 0
   Goal r = Met t (remove_to t k r) (remove k) (of_removed r)
 
-  finish : (r : Removed) → remove_answer t.keys t.rows t.buckets k ≡ r → Goal r
+  finish : (r : Result Node Refusal) → remove_answer t.keys t.rows t.buckets k ≡ r → Goal r
       → Met t (remove_tables t k) (remove k) (of_removed (remove_answer t.keys t.rows t.buckets k))
   finish r e g = rw e g
 
-  absent : found t.keys t.rows t.buckets size (rank_of k) ≡ Found.Nothing → Goal (Removed.Refused 4)
+  absent : found t.keys t.rows t.buckets size (rank_of k) ≡ None → Goal (Err KeyAbsent)
   unfolding view
   absent e = met_same t (remove k) (refused 4) S (refuse_absent (view t) k (found_none t S k f e))
 
-  module _ (n : ℕ) (e : found t.keys t.rows t.buckets size (rank_of k) ≡ Found.At n) where
+  module _ (n : ℕ) (e : found t.keys t.rows t.buckets size (rank_of k) ≡ Some n) where
     abbrev counter : ℕ
     counter = t.coordinator.counter.0
 
@@ -102,7 +104,7 @@ module _ (t : Tables) (S : Sound t) (k : ℤ) (f : SFits w64 k) where
     D = take_done counter (remove_ready t S) here
 
     abbrev t' : Tables
-    t' = remove_to t k (Removed.At (node n))
+    t' = remove_to t k (Ok (node n))
 
     order : order_of after size ≡ order_of t.rows size
     order = order_kept t.rows after size D.same
@@ -140,13 +142,13 @@ module _ (t : Tables) (S : Sound t) (k : ℤ) (f : SFits w64 k) where
         D.placed
         refl
 
-    left : Goal (Removed.At (node n))
+    left : Goal (Ok (node n))
     unfolding view node_at
     left =
         let held = (found_node t S k f n e).2 in
-        met t t' (remove k) (of_removed (Removed.At (node n))) S lengths memory hashed S.few S.resting
+        met t t' (remove k) (of_removed (Ok (node n))) S lengths memory hashed S.few S.resting
         (remove_leaves (view t) k _ held
-        ∙ ap (λ (s : M.State). (s, of_removed (Removed.At (node n))))
+        ∙ ap (λ (s : M.State). (s, of_removed (Ok (node n))))
         (ap (λ ns. M.with_order ns (view t)) (leave_at (view t) S.well k _ held)
         ∙ view_changed t t' _ _ refl refl refl
         (ap (map (node_at t.keys t.values after)) order ∙ shows_pending t.keys t.values t.rows t.buckets after (rank_of k) n counter D (order_of t.rows size))
@@ -156,12 +158,12 @@ module _ (t : Tables) (S : Sound t) (k : ℤ) (f : SFits w64 k) where
   pub remove_meets : Met t (remove_tables t k) (remove k) (of_removed (remove_answer t.keys t.rows t.buckets k))
   remove_meets = go (found t.keys t.rows t.buckets size (rank_of k)) refl
     where
-      go : (r : Found) → found t.keys t.rows t.buckets size (rank_of k) ≡ r → Met t (remove_tables t k) (remove k) (of_removed (remove_answer t.keys t.rows t.buckets k))
-      go (Found.At n) e = finish (Removed.At (node n)) (remove_finds t.keys t.rows t.buckets k n e) (left n e)
-      go Found.Nothing e = finish (Removed.Refused 4) (remove_lacks t.keys t.rows t.buckets k e) (absent e)
+      go : (r : Option ℕ) → found t.keys t.rows t.buckets size (rank_of k) ≡ r → Met t (remove_tables t k) (remove k) (of_removed (remove_answer t.keys t.rows t.buckets k))
+      go (Some n) e = finish (Ok (node n)) (remove_finds t.keys t.rows t.buckets k n e) (left n e)
+      go None e = finish (Err KeyAbsent) (remove_lacks t.keys t.rows t.buckets k e) (absent e)
 
 -- LAW: what the code ensures, told of all the tables: it is a function of them, and meets the model
-module _ (t : Tables) (k : ℤ) (rows' buckets' : List ℕ) (r : Removed) (d : Removes t.keys t.rows t.buckets rows' buckets' t.coordinator.counter.0 k r) where
+module _ (t : Tables) (k : ℤ) (rows' buckets' : List ℕ) (r : Result Node Refusal) (d : Removes t.keys t.rows t.buckets rows' buckets' t.coordinator.counter.0 k r) where
   pub remove_cells : tables_with t t.keys t.values rows' buckets' ≡ remove_tables t k
   remove_cells = rw (d.to_rows, d.to_buckets, d.answer)
 

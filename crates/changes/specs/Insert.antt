@@ -1,5 +1,9 @@
 -- Insert: what its code relies on, its answer, and the tables afterwards.
 -- Assumes nothing.
+use Rattle.std.specs.Prelude.{Result, Ok, Err, Some, None, Option}
+use Rattle.sizes.specs.declared.Node.{Node}
+use Rattle.model.specs.declared.Refusal.{Refusal}
+use Rattle.model.specs.declared.Refusal.TheVariants.{KeyPresent, NoFreeNode}
 use Rattle.std.specs.Prelude.{◌≡◌, List, [], ◌∷◌, ℕ, ◌+◌, ◌*◌, ◌<◌, ◌≤◌, length, set, ℤ}
 use Rattle.lists.specs.Holds.{All}
 use Rattle.sizes.specs.Rank.{rank_of}
@@ -8,13 +12,11 @@ use Rattle.levels.specs.declared.Pair.{Pair}
 use Rattle.levels.specs.Levels.{order_of}
 use Rattle.levels.specs.Stitch.{stitched}
 use Rattle.levels.specs.Search.{searched, Rising, Searchable}
-use Rattle.buckets.specs.declared.Found.{Found}
 use Rattle.buckets.specs.Buckets.{Buckets}
 use Rattle.buckets.specs.Finding.{found}
 use Rattle.buckets.specs.Changes.{rows_with, buckets_with}
 use Rattle.places.specs.Places.{Places, Counted, free_of, first_free}
 use Rattle.places.specs.Changes.{drawn, made_present}
-use Rattle.model.specs.declared.Inserted.{Inserted}
 use Rattle.model.specs.Model.{height_of}
 use Rattle.tables.specs.Tables.{Tables, node, levels_of, Used, Memory}
 
@@ -43,12 +45,12 @@ pub record Linkable (keys rows buckets : List ℕ) (cap levels height : ℕ) : T
 -- ---- the answer
 
 -- 3 where the key is present, then 5 where no node is free, else the node freed last
-abbrev pub insert_case : Found → List ℕ → Inserted
-insert_case (Found.At m) free = Inserted.Refused 3
-insert_case Found.Nothing [] = Inserted.Refused 5
-insert_case Found.Nothing (n ∷ free) = Inserted.At (node n)
+abbrev pub insert_case : Option ℕ → List ℕ → Result Node Refusal
+insert_case (Some m) free = Err KeyPresent
+insert_case None [] = Err NoFreeNode
+insert_case None (n ∷ free) = Ok (node n)
 
-unfoldable pub insert_answer : List ℕ → List ℕ → List ℕ → ℤ → Inserted
+unfoldable pub insert_answer : List ℕ → List ℕ → List ℕ → ℤ → Result Node Refusal
 insert_answer keys rows buckets key = insert_case (found keys rows buckets (length keys) (rank_of key)) (free_of rows (length keys))
 
 -- ---- the cells
@@ -70,26 +72,26 @@ pub record LinksIn (keys rows buckets rows' buckets' : List ℕ) (cap levels ran
   pub to_buckets : buckets' ≡ buckets_with buckets rank (first_free rows cap)
 
 -- each part after the answer
-abbrev pub insert_keys : Inserted → List ℕ → ℤ → List ℕ
-insert_keys (Inserted.At i) keys key = set keys i.0 (rank_of key)
-insert_keys (Inserted.Refused k) keys key = keys
+abbrev pub insert_keys : Result Node Refusal → List ℕ → ℤ → List ℕ
+insert_keys (Ok i) keys key = set keys i.0 (rank_of key)
+insert_keys (Err k) keys key = keys
 
-abbrev pub insert_values : Inserted → List ℤ → ℤ → List ℤ
-insert_values (Inserted.At i) values value = set values i.0 value
-insert_values (Inserted.Refused k) values value = values
+abbrev pub insert_values : Result Node Refusal → List ℤ → ℤ → List ℤ
+insert_values (Ok i) values value = set values i.0 value
+insert_values (Err k) values value = values
 
-abbrev pub insert_rows : Inserted → List ℕ → List ℕ → List ℕ → ℕ → ℤ → ℕ → List ℕ
-insert_rows (Inserted.At i) keys rows buckets counter key coin =
+abbrev pub insert_rows : Result Node Refusal → List ℕ → List ℕ → List ℕ → ℕ → ℤ → ℕ → List ℕ
+insert_rows (Ok i) keys rows buckets counter key coin =
     let levels : ℕ = levels_of (length keys) in
     linked_in keys rows buckets (length keys) levels (rank_of key) (height_of levels coin) counter
-insert_rows (Inserted.Refused k) keys rows buckets counter key coin = rows
+insert_rows (Err k) keys rows buckets counter key coin = rows
 
-abbrev pub insert_buckets : Inserted → List ℕ → ℤ → List ℕ
-insert_buckets (Inserted.At i) buckets key = buckets_with buckets (rank_of key) i.0
-insert_buckets (Inserted.Refused k) buckets key = buckets
+abbrev pub insert_buckets : Result Node Refusal → List ℕ → ℤ → List ℕ
+insert_buckets (Ok i) buckets key = buckets_with buckets (rank_of key) i.0
+insert_buckets (Err k) buckets key = buckets
 
 -- what the code does: its answer, and each part at exit
-pub record Inserts (keys : List ℕ) (values : List ℤ) (rows buckets keys' : List ℕ) (values' : List ℤ) (rows' buckets' : List ℕ) (counter : ℕ) (key value : ℤ) (coin : ℕ) (r : Inserted) : Type 0 where
+pub record Inserts (keys : List ℕ) (values : List ℤ) (rows buckets keys' : List ℕ) (values' : List ℤ) (rows' buckets' : List ℕ) (counter : ℕ) (key value : ℤ) (coin : ℕ) (r : Result Node Refusal) : Type 0 where
   pub answer : r ≡ insert_answer keys rows buckets key
   pub to_keys : keys' ≡ insert_keys r keys key
   pub to_values : values' ≡ insert_values r values value
@@ -103,7 +105,7 @@ abbrev pub tables_with : Tables → List ℕ → List ℤ → List ℕ → List 
 tables_with t keys values rows buckets =
     record { keys = keys; values = values; rows = rows; buckets = buckets; tickets = t.tickets; coordinator = t.coordinator }
 
-abbrev pub insert_to : Tables → ℤ → ℤ → ℕ → Inserted → Tables
+abbrev pub insert_to : Tables → ℤ → ℤ → ℕ → Result Node Refusal → Tables
 insert_to t key value coin r =
     tables_with t (insert_keys r t.keys key) (insert_values r t.values value)
     (insert_rows r t.keys t.rows t.buckets t.coordinator.counter.0 key coin)

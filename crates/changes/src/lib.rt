@@ -8,8 +8,8 @@ ghost use Rattle.changes.specs.Insert.{InsertReady, Linkable, Inserts, LinksIn, 
 ghost use Rattle.changes.specs.Remove.{RemoveReady, Removes};
 
 use levels::Pair;
-use model::{Inserted, Removed};
-use rows::{HEIGHT, INSERTED, REMOVED, put, wide};
+use model::Refusal;
+use rows::{Column, put};
 use sizes::{Node, Version};
 
 // 1 plus the number of trailing one bits of the coin, at most the levels.
@@ -26,8 +26,8 @@ fn stitch_in(rows: &mut [u32], n: u32, height: u32, counter: Version, pairs: [Pa
     requires { Stitchable rows.old n pairs height }
     ensures { rows.new ≡ stitched_in rows.old n height counter.0 pairs }
 {
-    put(rows, n, HEIGHT, height);
-    put(rows, n, INSERTED, counter.0);
+    put(rows, n, Column::Height, height);
+    put(rows, n, Column::Inserted, counter.0);
     levels::stitch(rows, n, height, pairs);
 }
 
@@ -64,25 +64,25 @@ pub fn insert(
     key: i64,
     value: i64,
     coin: u64,
-) -> Inserted
+) -> Result<Node, Refusal>
     requires { InsertReady keys.old values.old rows.old buckets.old }
     ensures { Inserts keys.old values.old rows.old buckets.old keys.new values.new rows.new buckets.new counter.0 key value coin result }
 {
     let cap = keys.len() as u32;
     let rank = sizes::rank(key);
-    if let buckets::Found::At(_) = buckets::find(keys, rows, buckets, cap, rank) {
-        return Inserted::Refused(3);
+    if buckets::find(keys, rows, buckets, cap, rank).is_some() {
+        return Err(Refusal::KeyPresent);
     }
     if places::free_count(rows, cap) == 0 {
-        return Inserted::Refused(5);
+        return Err(Refusal::NoFreeNode);
     }
     let levels = tables::levels_of(cap);
     let height = height_of(coin, levels);
     let n = link_in(keys, rows, buckets, cap, levels, rank, height, counter);
-    let at = wide(n);
+    let at = n as usize;
     keys[at] = rank;
     values[at] = value;
-    Inserted::At(Node(n))
+    Ok(Node(n))
 }
 
 // Remove: the node of the key leaves its bucket, takes the counter as its removal version and is pending. Refused with 4 where the key is absent.
@@ -92,19 +92,17 @@ pub fn remove(
     buckets: &mut [u32],
     counter: Version,
     key: i64,
-) -> Removed
+) -> Result<Node, Refusal>
     requires { RemoveReady keys.now rows.old buckets.old }
     ensures { Removes keys.now rows.old buckets.old rows.new buckets.new counter.0 key result }
 {
     let cap = keys.len() as u32;
     let rank = sizes::rank(key);
-    match buckets::find(keys, rows, buckets, cap, rank) {
-        buckets::Found::At(n) => {
-            buckets::drop(rows, buckets, cap, rank, n);
-            put(rows, n, REMOVED, counter.0);
-            places::make_pending(rows, cap, n);
-            Removed::At(Node(n))
-        }
-        buckets::Found::Nothing => Removed::Refused(4),
-    }
+    let Some(n) = buckets::find(keys, rows, buckets, cap, rank) else {
+        return Err(Refusal::KeyAbsent);
+    };
+    buckets::drop(rows, buckets, cap, rank, n);
+    put(rows, n, Column::Removed, counter.0);
+    places::make_pending(rows, cap, n);
+    Ok(Node(n))
 }

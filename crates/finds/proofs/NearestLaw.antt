@@ -1,5 +1,7 @@
 -- Ceil, floor, succ and pred meet the model: one law over the direction and whether the key itself counts.
 -- Assumes nothing.
+use Rattle.std.specs.Prelude.{Ok, Err}
+use Rattle.model.specs.declared.Refusal.TheVariants.{NoPresentKey}
 use mathlib.Core.Path.{◌≡◌, refl, ap, ◌∙◌}
 use mathlib.Core.Bool.{Bool, true, false, cond}
 use mathlib.Core.List.{List}
@@ -13,7 +15,6 @@ use borrow.Author.Tests.{lt-ltb, le-ltb}
 use Rattle.sizes.specs.Rank.{rank_of, key_of}
 use Rattle.model.specs.Model as M
 use Rattle.model.specs.Answers.{of_nearest}
-use Rattle.model.specs.declared.Nearest.TheVariants.{Key, Refused}
 use Rattle.tables.specs.Tables.{Tables, capacity_of, Sound, Met, view, node_at}
 use Rattle.tables.proofs.Meeting.{met_same}
 use Rattle.finds.specs.Near.{near_of}
@@ -26,11 +27,11 @@ module _ (keys rows : List ℕ) (d : ℕ) (at : Bool) {rank r : ℕ} (k : r ≡ 
   node_is : i ≡ near_of keys rows (length keys) rank d at
   node_is = w ∙ (e ∙ ap (λ x. near_of keys rows (length keys) x d at) k)
 
-  pub key_found : {z : ℤ} → i < length keys → z ≡ key_of (get_or keys i 0) → Key z ≡ nearest_key keys (near_of keys rows (length keys) rank d at)
+  pub key_found : {z : ℤ} → i < length keys → z ≡ key_of (get_or keys i 0) → Ok z ≡ nearest_key keys (near_of keys rows (length keys) rank d at)
   unfolding nearest_key
-  key_found l q = ap Key q ∙ rw (← node_is, lt-ltb i (length keys) l)
+  key_found l q = ap Ok q ∙ rw (← node_is, lt-ltb i (length keys) l)
 
-  pub key_none : length keys ≤ i → Refused 13 ≡ nearest_key keys (near_of keys rows (length keys) rank d at)
+  pub key_none : length keys ≤ i → Err NoPresentKey ≡ nearest_key keys (near_of keys rows (length keys) rank d at)
   unfolding nearest_key
   key_none l = rw (← node_is, le-ltb i (length keys) l)
 
@@ -48,7 +49,7 @@ nearest_told : (t : Tables) (n : ℕ) → M.nearest_in (pair_at t n) ≡ of_near
 unfolding nearest_key node_at
 nearest_told t n = go (ltb n (capacity_of t)) refl
   where
-    go : (b : Bool) → ltb n (capacity_of t) ≡ b → M.nearest_in (pair_at t n) ≡ of_nearest (cond (ltb n (capacity_of t)) (Key (key_of (get_or t.keys n 0))) (Refused 13))
+    go : (b : Bool) → ltb n (capacity_of t) ≡ b → M.nearest_in (pair_at t n) ≡ of_nearest (cond (ltb n (capacity_of t)) (Ok (key_of (get_or t.keys n 0))) (Err NoPresentKey))
     go true e = rw e
     go false e = rw e
 

@@ -1,5 +1,6 @@
 -- The nearest present node as `near` comes to it: at the bucket's node, beside it, or beside the place that a search found.
 -- Assumes nothing.
+use Rattle.std.specs.Prelude.{Some, None, Option}
 use mathlib.Core.Path.{◌≡◌, refl, sym, ap, ap₂, ◌∙◌}
 use mathlib.Core.Logic.{◌≢◌, inl}
 use mathlib.Core.Bool.{Bool, true, false}
@@ -26,8 +27,6 @@ use Rattle.levels.specs.Nearest.{present, nearest_of, Lowest, Walkable}
 use Rattle.levels.proofs.Orders.{turned, link_at, order_in_lem}
 use Rattle.levels.proofs.Nearing.{in_turned, turned_in, nearest_part, walk_on}
 use Rattle.levels.proofs.Placing.{search_lowest, nearest_above, nearest_up_to, place_walk_after, place_walk_before}
-use Rattle.buckets.specs.declared.Found.{Found}
-use Rattle.buckets.specs.declared.Found.TheVariants.{At, Nothing}
 use Rattle.buckets.specs.Finding.{found, Holds}
 use Rattle.buckets.proofs.Finding.{finds}
 use Rattle.tables.specs.Tables.{levels_of}
@@ -157,11 +156,11 @@ module _ (keys rows buckets : List ℕ) (s : NearReady keys rows buckets) (d : �
 
 -- ---- as the code comes to them
 
-module _ (keys rows buckets : List ℕ) (s : NearReady keys rows buckets) (rank : ℕ) {r : Found} (f : r ≡ found keys rows buckets (length keys) rank) where
-  pub held : {n : ℕ} → r ≡ At n → Holds keys rows (length keys) rank n
+module _ (keys rows buckets : List ℕ) (s : NearReady keys rows buckets) (rank : ℕ) {r : Option ℕ} (f : r ≡ found keys rows buckets (length keys) rank) where
+  pub held : {n : ℕ} → r ≡ Some n → Holds keys rows (length keys) rank n
   held e = finds keys rows buckets (length keys) s.hashed rank (sym e ∙ f)
 
-  pub unheld : r ≡ Nothing → (n : ℕ) → Holds keys rows (length keys) rank n → ⊥
+  pub unheld : r ≡ None → (n : ℕ) → Holds keys rows (length keys) rank n → ⊥
   unheld e = finds keys rows buckets (length keys) s.hashed rank (sym e ∙ f)
 
 -- the place that a search found

@@ -1,5 +1,7 @@
 -- A refused lent form leaves all that is lent as it was, cell by cell: the tables with tickets and coordinator, the pair buffers, the room for answers.
 -- Assumes nothing.
+use Rattle.std.specs.Prelude.{Result, Err}
+use Rattle.model.specs.declared.Refusal.{Refusal}
 use mathlib.Core.Path.{◌≡◌, ap, ◌∙◌}
 use mathlib.Core.Bool.{Bool}
 use mathlib.Core.List.{List}
@@ -7,18 +9,10 @@ use Prim.Native.Nat.{ℕ}
 use native.Mathlib.Decide.{ℕ_discrete}
 use lib.IntN.{ℤ}
 use Rattle.sizes.specs.declared.Version.{Version}
-use Rattle.model.specs.declared.SetUp.{SetUp}
-use Rattle.model.specs.declared.Found.{Found}
-use Rattle.model.specs.declared.Nearest.{Nearest}
 use Rattle.model.specs.declared.Tallied.{Tallied}
-use Rattle.model.specs.declared.Inserted.{Inserted}
-use Rattle.model.specs.declared.Removed.{Removed}
 use Rattle.model.specs.declared.Handed.{Handed}
 use Rattle.model.specs.declared.Swept.{Swept}
-use Rattle.model.specs.declared.Closed.{Closed}
-use Rattle.model.specs.declared.Opened.{Opened}
 use Rattle.model.specs.declared.Stepped.{Stepped}
-use Rattle.model.specs.declared.Ranged.{Ranged}
 use Rattle.tables.specs.Tables.{Tables}
 use Rattle.soundness.proofs.Fresh as F
 use Rattle.calls.specs.Entries as E
@@ -41,41 +35,41 @@ module _ {X Y : Type 0} {n : ℕ} {ByValue : X → X → Y → Type 0} {refuse :
 
 -- ---- LAWS: with so many tickets, each lent form; m is the number of the refusal
 
-pub set_up_unchanged : (n capacity : ℕ) (start : Version) (t t' : Tables) (m : ℕ) → SetsUp n capacity start t t' (SetUp.Refused m) → t' ≡ t
+pub set_up_unchanged : (n capacity : ℕ) (start : Version) (t t' : Tables) (m : ℕ) → SetsUp n capacity start t t' (Err m) → t' ≡ t
 set_up_unchanged n capacity start t t' m = lends_unchanged (F.set_up_unchanged t t' capacity start m)
 
 -- lookup, ceil, floor, succ, pred and tally leave it whatever they answer
-pub lookup_unchanged : (n : ℕ) (k : ℤ) (t t' : Tables) (a : Found) → Looks n k t t' a → t' ≡ t
+pub lookup_unchanged : (n : ℕ) (k : ℤ) (t t' : Tables) (a : Result ℤ Refusal) → Looks n k t t' a → t' ≡ t
 lookup_unchanged n k t t' a = lends_unchanged U.kept
 
-pub nearest_unchanged : (n : ℕ) (k : ℤ) (d : ℕ) (at : Bool) (t t' : Tables) (a : Nearest) → Nears n k d at t t' a → t' ≡ t
+pub nearest_unchanged : (n : ℕ) (k : ℤ) (d : ℕ) (at : Bool) (t t' : Tables) (a : Result ℤ Refusal) → Nears n k d at t t' a → t' ≡ t
 nearest_unchanged n k d at t t' a = lends_unchanged U.kept
 
 pub tally_unchanged : (n : ℕ) (t t' : Tables) (a : Tallied) → Tallies n t t' a → t' ≡ t
 tally_unchanged n t t' a = lends_unchanged U.kept
 
-pub insert_unchanged : (n : ℕ) (k v : ℤ) (coin : ℕ) (t t' : Tables) (m : ℕ) → Inserts n k v coin t t' (Inserted.Refused m) → t' ≡ t
+pub insert_unchanged : (n : ℕ) (k v : ℤ) (coin : ℕ) (t t' : Tables) (m : ℕ) → Inserts n k v coin t t' (Err m) → t' ≡ t
 insert_unchanged n k v coin t t' m = lends_unchanged (U.insert_unchanged t t' k v coin m)
 
-pub remove_unchanged : (n : ℕ) (k : ℤ) (t t' : Tables) (m : ℕ) → Removes n k t t' (Removed.Refused m) → t' ≡ t
+pub remove_unchanged : (n : ℕ) (k : ℤ) (t t' : Tables) (m : ℕ) → Removes n k t t' (Err m) → t' ≡ t
 remove_unchanged n k t t' m = lends_unchanged (U.remove_unchanged t t' k m)
 
-pub hand_over_unchanged : (n i : ℕ) (t t' : Tables) (m : ℕ) → HandsOver n i t t' (Handed.Refused m) → t' ≡ t
+pub hand_over_unchanged : (n i : ℕ) (t t' : Tables) (m : ℕ) → HandsOver n i t t' (Err m) → t' ≡ t
 hand_over_unchanged n i t t' m = lends_unchanged (U.hand_over_unchanged t t' i m)
 
-pub sweep_unchanged : (n : ℕ) (t t' : Tables) (m : ℕ) → Sweeps n t t' (Swept.Refused m) → t' ≡ t
+pub sweep_unchanged : (n : ℕ) (t t' : Tables) (m : ℕ) → Sweeps n t t' (Err m) → t' ≡ t
 sweep_unchanged n t t' m = lends_unchanged (U.sweep_unchanged t t' m)
 
-pub open_unchanged : (n : ℕ) (l h : ℤ) (t t' : Tables) (m : ℕ) → Opens n l h t t' (Opened.Refused m) → t' ≡ t
+pub open_unchanged : (n : ℕ) (l h : ℤ) (t t' : Tables) (m : ℕ) → Opens n l h t t' (Err m) → t' ≡ t
 open_unchanged n l h t t' m = lends_unchanged (U.open_unchanged t t' l h m)
 
-pub close_unchanged : (n v : ℕ) (t t' : Tables) (m : ℕ) → Closes n v t t' (Closed.Refused m) → t' ≡ t
+pub close_unchanged : (n v : ℕ) (t t' : Tables) (m : ℕ) → Closes n v t t' (Err m) → t' ≡ t
 close_unchanged n v t t' m = lends_unchanged (U.close_unchanged t t' v m)
 
-pub step_unchanged : (n v : ℕ) (x y : E.Lent) (m : ℕ) → Steps n v x y (Stepped.Refused m) → y ≡ x
+pub step_unchanged : (n v : ℕ) (x y : E.Lent) (m : ℕ) → Steps n v x y (Err m) → y ≡ x
 step_unchanged n v x y m = lends_unchanged (U.step_unchanged x.tables x.keys_out x.values_out y.tables y.keys_out y.values_out v m)
 
-pub fast_unchanged : (n : ℕ) (l h : ℤ) (x y : E.Lent) (m : ℕ) → Ranges n l h x y (Ranged.Refused m) → y ≡ x
+pub fast_unchanged : (n : ℕ) (l h : ℤ) (x y : E.Lent) (m : ℕ) → Ranges n l h x y (Err m) → y ≡ x
 fast_unchanged n l h x y m =
     lends_unchanged (λ o. ap (λ (t : Tables). E.with t y.keys_out y.values_out) o.0 ∙ U.fast_unchanged x.tables x.keys_out x.values_out y.keys_out y.values_out l h m o.1)
 

@@ -1,22 +1,17 @@
 -- The lent form of each call: its outcome by value, and its refusal where there are not sixteen tickets.
 -- Assumes nothing.
+use Rattle.std.specs.Prelude.{Result, Err, Some, None, ⊤, Option}
+use Rattle.sizes.specs.declared.Node.{Node}
+use Rattle.sizes.specs.declared.Size.{Size}
+use Rattle.model.specs.declared.Refusal.{Refusal}
+use Rattle.model.specs.declared.Refusal.TheVariants.{NotSound, NoSuchCapacity}
 use Rattle.std.specs.Prelude.{Bool, ◌≡◌, List, ℕ, ℤ}
 use Rattle.sizes.specs.declared.Version.{Version}
-use Rattle.sizes.specs.declared.Sized.{Sized}
-use Rattle.sizes.specs.declared.Sized.TheVariants.{Of, Nothing}
 use Rattle.sizes.specs.Sizes.{size_of}
-use Rattle.model.specs.declared.SetUp.{SetUp}
-use Rattle.model.specs.declared.Found.{Found}
-use Rattle.model.specs.declared.Nearest.{Nearest}
 use Rattle.model.specs.declared.Tallied.{Tallied}
-use Rattle.model.specs.declared.Inserted.{Inserted}
-use Rattle.model.specs.declared.Removed.{Removed}
 use Rattle.model.specs.declared.Handed.{Handed}
 use Rattle.model.specs.declared.Swept.{Swept}
-use Rattle.model.specs.declared.Closed.{Closed}
-use Rattle.model.specs.declared.Opened.{Opened}
 use Rattle.model.specs.declared.Stepped.{Stepped}
-use Rattle.model.specs.declared.Ranged.{Ranged}
 use Rattle.tables.specs.Tables.{Tables}
 use Rattle.soundness.specs.SetUp.{SetUpBy}
 use Rattle.calls.specs.Entries as E
@@ -26,59 +21,59 @@ use Rattle.lent.specs.declared.Run.{Run}
 use Rattle.lent.specs.Lends.{Lends}
 
 -- set-up refuses a capacity that is not in the table first
-abbrev pub refusal_of : Sized → SetUp
-refusal_of (Of size) = SetUp.Refused 1
-refusal_of Nothing = SetUp.Refused 2
+abbrev pub refusal_of : Option Size → Result ⊤ Refusal
+refusal_of (Some size) = Err NotSound
+refusal_of None = Err NoSuchCapacity
 
 -- set-up; `n` here and below is how many tickets are lent
-abbrev pub SetsUp : ℕ → ℕ → Version → Tables → Tables → SetUp → Type 0
+abbrev pub SetsUp : ℕ → ℕ → Version → Tables → Tables → Result ⊤ Refusal → Type 0
 SetsUp n capacity start = Lends n (λ t t' a. SetUpBy t t' capacity start a) (refusal_of (size_of capacity))
 
 -- lookup
-abbrev pub Looks : ℕ → ℤ → Tables → Tables → Found → Type 0
-Looks n k = Lends n (λ t t' a. E.Looks t t' k a) (Found.Refused 1)
+abbrev pub Looks : ℕ → ℤ → Tables → Tables → Result ℤ Refusal → Type 0
+Looks n k = Lends n (λ t t' a. E.Looks t t' k a) (Err NotSound)
 
 -- ceil, floor, succ and pred, by their direction and whether the key itself counts
-abbrev pub Nears : ℕ → ℤ → ℕ → Bool → Tables → Tables → Nearest → Type 0
-Nears n k d at = Lends n (λ t t' a. E.Nears t t' k d at a) (Nearest.Refused 1)
+abbrev pub Nears : ℕ → ℤ → ℕ → Bool → Tables → Tables → Result ℤ Refusal → Type 0
+Nears n k d at = Lends n (λ t t' a. E.Nears t t' k d at a) (Err NotSound)
 
 -- tally
-abbrev pub Tallies : ℕ → Tables → Tables → Tallied → Type 0
-Tallies n = Lends n (λ t t' a. E.Tallies t t' a) (Tallied.Refused 1)
+abbrev pub Tallies : ℕ → Tables → Tables → Result Tallied Refusal → Type 0
+Tallies n = Lends n (λ t t' a. E.Tallies t t' a) (Err NotSound)
 
 -- insert
-abbrev pub Inserts : ℕ → ℤ → ℤ → ℕ → Tables → Tables → Inserted → Type 0
-Inserts n k v coin = Lends n (λ t t' a. E.Inserts t t' k v coin a) (Inserted.Refused 1)
+abbrev pub Inserts : ℕ → ℤ → ℤ → ℕ → Tables → Tables → Result Node Refusal → Type 0
+Inserts n k v coin = Lends n (λ t t' a. E.Inserts t t' k v coin a) (Err NotSound)
 
 -- remove
-abbrev pub Removes : ℕ → ℤ → Tables → Tables → Removed → Type 0
-Removes n k = Lends n (λ t t' a. E.Removes t t' k a) (Removed.Refused 1)
+abbrev pub Removes : ℕ → ℤ → Tables → Tables → Result Node Refusal → Type 0
+Removes n k = Lends n (λ t t' a. E.Removes t t' k a) (Err NotSound)
 
 -- hand over
-abbrev pub HandsOver : ℕ → ℕ → Tables → Tables → Handed → Type 0
-HandsOver n node = Lends n (λ t t' a. E.HandsOver t t' node a) (Handed.Refused 1)
+abbrev pub HandsOver : ℕ → ℕ → Tables → Tables → Result Handed Refusal → Type 0
+HandsOver n node = Lends n (λ t t' a. E.HandsOver t t' node a) (Err NotSound)
 
 -- sweep
-abbrev pub Sweeps : ℕ → Tables → Tables → Swept → Type 0
-Sweeps n = Lends n (λ t t' a. E.Sweeps t t' a) (Swept.Refused 1)
+abbrev pub Sweeps : ℕ → Tables → Tables → Result Swept Refusal → Type 0
+Sweeps n = Lends n (λ t t' a. E.Sweeps t t' a) (Err NotSound)
 
 -- open
-abbrev pub Opens : ℕ → ℤ → ℤ → Tables → Tables → Opened → Type 0
-Opens n l h = Lends n (λ t t' a. E.Opens t t' l h a) (Opened.Refused 1)
+abbrev pub Opens : ℕ → ℤ → ℤ → Tables → Tables → Result Version Refusal → Type 0
+Opens n l h = Lends n (λ t t' a. E.Opens t t' l h a) (Err NotSound)
 
 -- close
-abbrev pub Closes : ℕ → ℕ → Tables → Tables → Closed → Type 0
-Closes n v = Lends n (λ t t' a. E.Closes t t' v a) (Closed.Refused 1)
+abbrev pub Closes : ℕ → ℕ → Tables → Tables → Result ℕ Refusal → Type 0
+Closes n v = Lends n (λ t t' a. E.Closes t t' v a) (Err NotSound)
 
 -- step: the pair buffers are lent too
-abbrev pub Steps : ℕ → ℕ → E.Lent → E.Lent → Stepped → Type 0
+abbrev pub Steps : ℕ → ℕ → E.Lent → E.Lent → Result Stepped Refusal → Type 0
 Steps n v =
-    Lends n (λ x y a. E.Steps x.tables x.keys_out x.values_out y.tables y.keys_out y.values_out v a) (Stepped.Refused 1)
+    Lends n (λ x y a. E.Steps x.tables x.keys_out x.values_out y.tables y.keys_out y.values_out v a) (Err NotSound)
 
 -- fast range: it leaves the tables; what it does by value says nothing of them afterwards
-abbrev pub Ranges : ℕ → ℤ → ℤ → E.Lent → E.Lent → Ranged → Type 0
+abbrev pub Ranges : ℕ → ℤ → ℤ → E.Lent → E.Lent → Result ℕ Refusal → Type 0
 Ranges n l h =
-    Lends n (λ x y a. (y.tables ≡ x.tables) × E.Ranges x.tables x.keys_out x.values_out y.keys_out y.values_out l h a) (Ranged.Refused 1)
+    Lends n (λ x y a. (y.tables ≡ x.tables) × E.Ranges x.tables x.keys_out x.values_out y.keys_out y.values_out l h a) (Err NotSound)
 
 -- ---- a list of calls
 
@@ -113,7 +108,7 @@ output_from x r =
 
 -- nothing was run
 abbrev pub not_run : Run
-not_run = record { end = End.Refused 1; used = 0; calls = 0; pairs = 0 }
+not_run = record { end = End.Refused NotSound; used = 0; calls = 0; pairs = 0 }
 
 -- a list of calls as schedule bytes, with whether more may follow
 abbrev pub Runs : ℕ → List ℕ → Bool → Rooms → Rooms → Run → Type 0

@@ -1,5 +1,7 @@
 -- An exported function whose number tells a refusal leaves all that is lent as it was, cell by cell.
 -- Assumes nothing.
+use Rattle.std.specs.Prelude.{Result, Ok, Err, ⊤}
+use Rattle.model.specs.declared.Refusal.{Refusal}
 use mathlib.Core.Path.{◌≡◌, refl, subst}
 use mathlib.Core.Logic.{◌≢◌}
 use mathlib.Core.Bool.{Bool, false}
@@ -8,7 +10,6 @@ use Prim.Native.Nat.{ℕ}
 use native.Mathlib.Omega.{arith}
 use lib.IntN.{ℤ, pos}
 use Rattle.sizes.specs.declared.Version.{Version}
-use Rattle.model.specs.declared.SetUp.{SetUp}
 use Rattle.model.specs.Calls.{Answer, refused, answered, accepted}
 use Rattle.model.specs.Answers.{of_found, of_inserted, of_removed, of_handed, of_nearest, of_ranged, of_opened, of_stepped, of_closed, of_swept, of_tallied}
 use Rattle.tables.specs.Tables.{Tables}
@@ -39,9 +40,9 @@ cells_unchanged code of same = gives_unchanged (λ cells. refusal_in cells ≢ p
 
 -- ---- LAWS: each exported function, with so many tickets
 
-set_up_tells : (P : SetUp → Type 0) → ((m : ℕ) → P (SetUp.Refused m)) → (a : SetUp) → refusal a ≢ 0 → P a
-set_up_tells P p SetUp.Done e = absurd (e refl)
-set_up_tells P p (SetUp.Refused m) e = p m
+set_up_tells : (P : Result ⊤ Refusal → Type 0) → ((m : ℕ) → P (Err m)) → (a : Result ⊤ Refusal) → refusal a ≢ 0 → P a
+set_up_tells P p (Ok tt) e = absurd (e refl)
+set_up_tells P p (Err m) e = p m
 
 pub set_up_unchanged : (n capacity : ℕ) (start : Version) (t t' : Tables) (r : ℕ) → r ≢ 0 → Gives (SetsUp n capacity start t t') refusal r → t' ≡ t
 set_up_unchanged n capacity start t t' r =

@@ -1,7 +1,8 @@
 -- What an exported function says, by the lent form that it calls.
 -- Assumes nothing.
+use Rattle.std.specs.Prelude.{Result, Ok, Err, ⊤}
+use Rattle.model.specs.declared.Refusal.{Refusal}
 use Rattle.std.specs.Prelude.{◌≡◌, List, ℕ, get_or, ℤ, pos}
-use Rattle.model.specs.declared.SetUp.{SetUp}
 use Rattle.batch.specs.declared.End.{End}
 use Rattle.lent.specs.declared.Run.{Run}
 use Rattle.lopresnik.specs.declared.Ran.{Ran}
@@ -17,9 +18,9 @@ abbrev pub refusal_in : List ℤ → ℤ
 refusal_in cells = get_or cells 1 (pos 0)
 
 -- 0, or the refusal of a set-up
-abbrev pub refusal : SetUp → ℕ
-refusal SetUp.Done = 0
-refusal (SetUp.Refused n) = n
+abbrev pub refusal : Result ⊤ Refusal → ℕ
+refusal (Ok tt) = 0
+refusal (Err n) = n
 
 -- why a list ended, and beside it the offset of a stop or the number of a refusal
 abbrev pub ending : End → ℕ × ℕ

@@ -1,5 +1,8 @@
 -- The cases of a fast range, as the code comes to them.
 -- Assumes nothing.
+use Rattle.std.specs.Prelude.{Result, Ok, Err}
+use Rattle.model.specs.declared.Refusal.{Refusal}
+use Rattle.model.specs.declared.Refusal.TheVariants.{BoundsReversed, TooManyPairs, TooFewPlaces}
 use mathlib.Core.Path.{◌≡◌, sym, ap, ◌∙◌}
 use mathlib.Core.Bool.{true, false, true≢false}
 use mathlib.Core.List.{List, [], ◌∷◌}
@@ -13,8 +16,6 @@ use borrow.Author.Tests.{lt-ltb, le-ltb}
 use Rattle.lists.specs.Filters.{empty}
 use Rattle.lists.specs.Buffers.{written}
 use Rattle.lists.proofs.Writing.{written_none}
-use Rattle.model.specs.declared.Ranged.{Ranged}
-use Rattle.model.specs.declared.Ranged.TheVariants.{Refused, Pairs}
 use Rattle.finds.specs.Near.{near_of}
 use Rattle.finds.proofs.Walking.{near_walkable}
 use Rattle.sizes.specs.Rank.{rank_of}
@@ -60,19 +61,19 @@ module _ (keys : List ℕ) (values : List ℤ) (rows : List ℕ) (counter : ℕ)
   abbrev room : ℕ
   room = room_of ks vs
 
-  ranged : {ks' vs' : List ℤ} (r : Ranged) → fast_answer nodes low high room ≡ r → ks' ≡ written ks 0 (keys_of keys (given r nodes)) → vs' ≡ written vs 0 (values_of values (given r nodes))
+  ranged : {ks' vs' : List ℤ} (r : Result ℕ Refusal) → fast_answer nodes low high room ≡ r → ks' ≡ written ks 0 (keys_of keys (given r nodes)) → vs' ≡ written vs 0 (values_of values (given r nodes))
       → RangedBy keys values rows counter low high ks vs ks' vs' r
   ranged r e a b = record { answer = sym e; keys_out = rw e a; values_out = rw e b }
 
-  refused : (n : ℕ) → fast_answer nodes low high room ≡ Refused n → RangedBy keys values rows counter low high ks vs ks vs (Refused n)
-  refused n e = ranged (Refused n) e (sym (written_none ks 0)) (sym (written_none vs 0))
+  refused : (n : ℕ) → fast_answer nodes low high room ≡ Err n → RangedBy keys values rows counter low high ks vs ks vs (Err n)
+  refused n e = ranged (Err n) e (sym (written_none ks 0)) (sym (written_none vs 0))
 
-  pub fast_crossed : lt_z high low ≡ true → RangedBy keys values rows counter low high ks vs ks vs (Refused 6)
+  pub fast_crossed : lt_z high low ≡ true → RangedBy keys values rows counter low high ks vs ks vs (Err BoundsReversed)
   unfolding fast_answer
   fast_crossed e = refused 6 (rw e)
 
   module _ (e : lt_z high low ≡ false) (ks₀ vs₀ ks₁ vs₁ : List ℤ) (r : Walked) (h : WalkedBy keys values rows w 64 ks₀ vs₀ ks₁ vs₁ r) where
-    pub fast_many : r.finished ≡ false → RangedBy keys values rows counter low high ks vs ks vs (Refused 7)
+    pub fast_many : r.finished ≡ false → RangedBy keys values rows counter low high ks vs ks vs (Err TooManyPairs)
     unfolding fast_answer
     fast_many f = refused 7 (rw (e, lt-ltb 64 (length nodes) (some_left 64 nodes (sym h.ended ∙ f))))
 
@@ -86,15 +87,15 @@ module _ (keys : List ℕ) (values : List ℤ) (rows : List ℕ) (counter : ℕ)
       count : r.count ≡ length nodes
       count = h.count ∙ ap length all
 
-      pub fast_full : room < r.count → RangedBy keys values rows counter low high ks vs ks vs (Refused 8)
+      pub fast_full : room < r.count → RangedBy keys values rows counter low high ks vs ks vs (Err TooFewPlaces)
       unfolding fast_answer
       fast_full l = refused 8 (rw (e, le-ltb 64 (length nodes) few, lt-ltb room (length nodes) (omega (arith, count))))
 
       pub fast_given_lem : (ks' vs' : List ℤ) → r.count ≤ room → ks' ≡ written ks 0 (take r.count ks₁) → vs' ≡ written vs 0 (take r.count vs₁)
-          → RangedBy keys values rows counter low high ks vs ks' vs' (Pairs r.count)
+          → RangedBy keys values rows counter low high ks vs ks' vs' (Ok r.count)
       unfolding fast_answer
       fast_given_lem ks' vs' l a b =
           rw count
-          (ranged (Pairs (length nodes)) (rw (e, le-ltb 64 (length nodes) few, le-ltb room (length nodes) (omega (arith, count))))
+          (ranged (Ok (length nodes)) (rw (e, le-ltb 64 (length nodes) few, le-ltb room (length nodes) (omega (arith, count))))
           (a ∙ ap (written ks 0) (rw (h.keys_out, all) (take_written ks₀ (keys_of keys nodes) r.count (length-map nodes _ ∙ sym count))))
           (b ∙ ap (written vs 0) (rw (h.values_out, all) (take_written vs₀ (values_of values nodes) r.count (length-map nodes _ ∙ sym count)))))

@@ -1,5 +1,8 @@
 -- What a fast range hands out means: the model's answer, and tables that stay as they were.
 -- Assumes nothing.
+use Rattle.std.specs.Prelude.{Result, Ok, Err}
+use Rattle.model.specs.declared.Refusal.{Refusal}
+use Rattle.model.specs.declared.Refusal.TheVariants.{BoundsReversed, TooManyPairs, TooFewPlaces}
 use mathlib.Core.Path.{◌≡◌, refl, sym, ap, ◌∙◌}
 use mathlib.Core.Bool.{Bool, true, false}
 use mathlib.Core.List.{List, map}
@@ -16,8 +19,6 @@ use Rattle.model.specs.Model as M
 use Rattle.model.specs.Plain.{between}
 use Rattle.model.specs.Calls.{fast, refused}
 use Rattle.model.specs.Answers.{of_ranged}
-use Rattle.model.specs.declared.Ranged.{Ranged}
-use Rattle.model.specs.declared.Ranged.TheVariants.{Refused, Pairs}
 use Rattle.model.proofs.Stops.{snapshot}
 use Rattle.model.proofs.PlainMap.{refuses}
 use Rattle.model.proofs.Applied.{fast_gives}
@@ -52,21 +53,21 @@ module _ (t : Tables) (S : Sound t) (low high : ℤ) (fl : SFits w64 low) (fh : 
   counted : length (between low high (M.plain (view t))) ≡ length nodes
   counted = ap length fast_plain ∙ length-map nodes (pair_at t.keys t.values t.rows)
 
-  abbrev Goal : Ranged → Type 0
+  abbrev Goal : Result ℕ Refusal → Type 0
   Goal r = Met t t (fast low high room) (of_ranged (written ks 0 (keys_of t.keys (given r nodes))) (written vs 0 (values_of t.values (given r nodes))) r)
 
-  crossed : lt_z high low ≡ true → Goal (Refused 6)
+  crossed : lt_z high low ≡ true → Goal (Err BoundsReversed)
   crossed e = met_same t (fast low high room) (refused 6) S (refuses (view t) (fast low high room) 6 (rw e))
 
   module _ (e : lt_z high low ≡ false) where
-    many : ltb M.fast_limit (length nodes) ≡ true → Goal (Refused 7)
+    many : ltb M.fast_limit (length nodes) ≡ true → Goal (Err TooManyPairs)
     many f = met_same t (fast low high room) (refused 7) S (refuses (view t) (fast low high room) 7 (rw (e, counted, f)))
 
     module _ (f : ltb M.fast_limit (length nodes) ≡ false) where
-      full : ltb room (length nodes) ≡ true → Goal (Refused 8)
+      full : ltb room (length nodes) ≡ true → Goal (Err TooFewPlaces)
       full h = met_same t (fast low high room) (refused 8) S (refuses (view t) (fast low high room) 8 (rw (e, counted, f, h)))
 
-      gives : ltb room (length nodes) ≡ false → Goal (Pairs (length nodes))
+      gives : ltb room (length nodes) ≡ false → Goal (Ok (length nodes))
       gives h =
           met_same t (fast low high room) _ S
           (fast_gives (view t) low high room e (rw counted f) (rw counted h)
@@ -85,5 +86,5 @@ module _ (t : Tables) (S : Sound t) (low high : ℤ) (fl : SFits w64 low) (fh : 
       go false false false e f h = rw (e, f, h) (gives e f h)
 
   -- LAW: so does whatever fast_range comes to
-  pub fast_outcome : (ks' vs' : List ℤ) (r : Ranged) → RangedBy t.keys t.values t.rows t.coordinator.counter.0 low high ks vs ks' vs' r → Met t t (fast low high room) (of_ranged ks' vs' r)
+  pub fast_outcome : (ks' vs' : List ℤ) (r : Result ℕ Refusal) → RangedBy t.keys t.values t.rows t.coordinator.counter.0 low high ks vs ks' vs' r → Met t t (fast low high room) (of_ranged ks' vs' r)
   fast_outcome ks' vs' r h = rw (h.answer, h.keys_out, h.values_out) fast_meets

@@ -1,5 +1,6 @@
 -- The cases of a step, as the code comes to them.
 -- Assumes nothing.
+use Rattle.model.specs.declared.Refusal.TheVariants.{TooFewPlaces, NoSuchRange}
 use mathlib.Core.Path.{◌≡◌, refl, sym}
 use mathlib.Core.Logic.{◌≢◌}
 use mathlib.Core.List.{List}
@@ -9,7 +10,7 @@ use lib.IntN.{ℤ}
 use borrow.Author.Tests.{eq-eqb, ne_eqb, lt-ltb, le-ltb}
 use Rattle.lists.specs.Buffers.{written}
 use Rattle.lists.proofs.Writing.{written_none}
-use Rattle.model.specs.declared.Stepped.TheVariants.{Refused, Pairs}
+use Rattle.model.specs.declared.Stepped.TheVariants.{Err, Pairs}
 use Rattle.tables.specs.declared.Ticket.{Ticket}
 use Rattle.tables.specs.Tables.{ticket_at}
 use Rattle.ranges.specs.declared.Walked.{Walked}
@@ -27,7 +28,7 @@ module _ (keys : List ℕ) (values : List ℤ) (rows : List ℕ) (ts : List Tick
       → SteppedBy keys values rows ts k v ks vs ks' vs' r
   stepped c e a b d = record { end = rw e a; keys_out = rw e b; values_out = rw e d }
 
-  refused : (n : ℕ) → stepping ts k v room ≡ refuse n → SteppedBy keys values rows ts k v ks vs ks vs (record { answer = Refused n; tickets = ts })
+  refused : (n : ℕ) → stepping ts k v room ≡ refuse n → SteppedBy keys values rows ts k v ks vs ks vs (record { answer = Err n; tickets = ts })
   refused n e = stepped (refuse n) e refl (sym (written_none ks 0)) (sym (written_none vs 0))
 
   module _ (j : ℕ) (e : j ≡ index_of v k ts) where
@@ -43,10 +44,10 @@ module _ (keys : List ℕ) (values : List ℤ) (rows : List ℕ) (ts : List Tick
     unfolding stepping
     case_on h z = rw (← e, lt-ltb j k h, ne_eqb room 0 z)
 
-    pub step_none : k ≤ j → SteppedBy keys values rows ts k v ks vs ks vs (record { answer = Refused 11; tickets = ts })
+    pub step_none : k ≤ j → SteppedBy keys values rows ts k v ks vs ks vs (record { answer = Err NoSuchRange; tickets = ts })
     step_none h = refused 11 (case_none h)
 
-    pub step_full : j < k → room ≡ 0 → SteppedBy keys values rows ts k v ks vs ks vs (record { answer = Refused 8; tickets = ts })
+    pub step_full : j < k → room ≡ 0 → SteppedBy keys values rows ts k v ks vs ks vs (record { answer = Err TooFewPlaces; tickets = ts })
     step_full h z = refused 8 (case_full h z)
 
     pub step_on : (ks' vs' : List ℤ) (r : Walked) → j < k → room ≢ 0 → WalkedBy keys values rows (walk_of (ticket_at ts j)) room ks vs ks' vs' r

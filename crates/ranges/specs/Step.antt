@@ -1,22 +1,28 @@
 -- Step: its answer, the pairs that it hands out, and where the ticket rests then.
 -- Assumes nothing.
-use Rattle.std.specs.Prelude.{◌≡◌, cond, List, [], ℕ, ◌≤◌, ◌<◌, min, length, set, ltb, eqb, ℤ}
+use Rattle.std.specs.Prelude.{◌≡◌, cond, Result, Ok, Err, List, [], ℕ, ◌≤◌, ◌<◌, min, length, set, ltb, eqb, ℤ}
 use Rattle.lists.specs.Buffers.{written}
-use Rattle.model.specs.declared.Stepped.TheVariants.{Refused, Pairs}
+use Rattle.model.specs.declared.Stepped.{Stepped}
 use Rattle.tables.specs.declared.Ticket.{Ticket}
 use Rattle.tables.specs.Tables.{Tables, node, ticket_at}
-use Rattle.ranges.specs.declared.Step.{Step}
+use Rattle.model.specs.declared.Refusal.{Refusal}
+use Rattle.model.specs.declared.Refusal.TheVariants.{TooFewPlaces, NoSuchRange}
 use Rattle.ranges.specs.Tickets.{index_of, with_tickets}
 use Rattle.ranges.specs.Walk.{walk_of, handed, finished, rest_after, keys_of, values_of, WalkReady}
 
--- refused with a number, or of the ticket at an index
+-- refused, or of the ticket at an index
 pub data Case : Type 0 where
-  refuse : ℕ → Case
+  refuse : Refusal → Case
   at : ℕ → Case
 
 -- no open range of that version; no room; else the ticket found
 unfoldable pub stepping : List Ticket → ℕ → ℕ → ℕ → Case
-stepping ts k v room = cond (ltb (index_of v k ts) k) (cond (eqb room 0) (refuse 8) (at (index_of v k ts))) (refuse 11)
+stepping ts k v room = cond (ltb (index_of v k ts) k) (cond (eqb room 0) (refuse TooFewPlaces) (at (index_of v k ts))) (refuse NoSuchRange)
+
+-- the answer, and the tickets afterwards
+pub record Step : Type 0 where
+  pub answer : Result Stepped Refusal
+  pub tickets : List Ticket
 
 -- the nodes whose pairs are handed out
 abbrev pub step_nodes : Case → List ℕ → List ℕ → List Ticket → ℕ → List ℕ
@@ -28,10 +34,13 @@ abbrev pub rest_on : ℕ → Ticket → Ticket
 rest_on n t = record { version = t.version; low = t.low; high = t.high; rest = node n; held = t.held }
 
 abbrev pub step_end : Case → List ℕ → List ℕ → List Ticket → ℕ → Step
-step_end (refuse n) keys rows ts room = record { answer = Refused n; tickets = ts }
+step_end (refuse n) keys rows ts room = record { answer = Err n; tickets = ts }
 step_end (at j) keys rows ts room =
     record {
-      answer = Pairs (length (handed keys rows (walk_of (ticket_at ts j)) room)) (finished keys rows (walk_of (ticket_at ts j)) room);
+      answer = Ok (record {
+          pairs = length (handed keys rows (walk_of (ticket_at ts j)) room);
+          finished = finished keys rows (walk_of (ticket_at ts j)) room;
+        });
       tickets = set ts j (rest_on (rest_after keys rows (walk_of (ticket_at ts j)) room) (ticket_at ts j));
     }
 

@@ -1,6 +1,6 @@
 -- The open tickets: where one of a version is, how they close up, and the tables with others.
 -- Assumes nothing.
-use Rattle.std.specs.Prelude.{cond, List, [], ◌∷◌, ℕ, zero, suc, eqb}
+use Rattle.std.specs.Prelude.{cond, List, [], ◌∷◌, ℕ, zero, suc, length, eqb, ltb, Option, Some, None}
 use Rattle.tables.specs.declared.Ticket.{Ticket}
 use Rattle.tables.specs.declared.Coordinator.{Coordinator}
 use Rattle.tables.specs.Tables.{Tables}
@@ -10,6 +10,10 @@ abbrev pub index_of : ℕ → ℕ → List Ticket → ℕ
 index_of v zero ts = 0
 index_of v (suc k) [] = suc k
 index_of v (suc k) (x ∷ ts) = cond (eqb x.version.0 v) 0 (suc (index_of v k ts))
+
+-- the same of all of these tickets, where one has the version
+abbrev pub place_of : ℕ → List Ticket → Option ℕ
+place_of v ts = cond (ltb (index_of v (length ts) ts) (length ts)) (Some (index_of v (length ts) ts)) None
 
 -- of the first k tickets, those behind the index j one down
 abbrev pub slide : ℕ → ℕ → List Ticket → List Ticket

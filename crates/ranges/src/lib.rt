@@ -1,120 +1,64 @@
 // Ranges: a range is opened, handed out step by step, and closed.
 #![tactic(auto)]
 
-ghost use Rattle.std.specs.Prelude.{◌≡◌, ◌<◌, ◌≤◌, min, length, take};
+ghost use Rattle.std.specs.Prelude.{◌≡◌, ◌<◌, ◌≤◌, length, take};
 ghost use Rattle.lists.specs.Buffers.{written};
 ghost use Rattle.levels.specs.Levels.{Row};
 ghost use Rattle.finds.specs.Near.{NearReady};
-ghost use Rattle.ranges.specs.Tickets.{index_of, slide};
+ghost use Rattle.ranges.specs.Tickets.{place_of, slide};
 ghost use Rattle.ranges.specs.Close.{CloseReady, closing};
 ghost use Rattle.ranges.specs.Walk.{may_rest, walk, WalkReady, WalkedBy};
 ghost use Rattle.ranges.specs.Step.{StepReady, SteppedBy};
 ghost use Rattle.ranges.specs.Open.{opening};
 ghost use Rattle.ranges.specs.Fast.{FastReady, RangedBy};
 
-use levels::AFTER;
-use model::{Closed, Opened, Ranged, Stepped};
-use rows::{IS_PRESENT, PLACE, cell, wide};
+use model::{Refusal, Stepped};
+use rows::{Column, Direction, IS_PRESENT, cell};
 use sizes::{Node, Version};
 use tables::{Coordinator, Ticket};
 
-// The index of the ticket of that version among the open ones, or how many are open.
-fn find_ticket(tickets: [Ticket; 16], ranges: usize, version: Version) -> usize
-    requires { ranges ≤ 16 }
-    ensures { result ≡ index_of version.0 ranges tickets }
+// The index of the ticket of that version among these.
+fn find_ticket(tickets: &[Ticket], version: Version) -> Option<usize>
+    ensures { result ≡ place_of version.0 tickets.now }
 {
-    let mut i: usize = 0;
-    while i < ranges {
-        let ticket = tickets[i];
-        let v = ticket.version;
-        if v.0 == version.0 {
-            return i;
-        }
-        i += 1;
-    }
-    ranges
+    tickets.iter().position(|ticket| ticket.version == version)
 }
 
 // The open tickets behind the index j, one down.
-fn drop_ticket(tickets: [Ticket; 16], ranges: usize, j: usize) -> [Ticket; 16]
+fn drop_ticket(tickets: &mut [Ticket; 16], ranges: usize, j: usize)
     requires { (j < ranges) × (ranges ≤ 16) }
-    ensures { result ≡ slide j ranges tickets }
+    ensures { tickets.new ≡ slide j ranges tickets.old }
 {
-    let mut after = tickets;
-    let mut i = j;
-    while i + 1 < ranges {
-        let ticket = after[i + 1];
-        after[i] = ticket;
-        i += 1;
+    for i in j + 1..ranges {
+        tickets[i - 1] = tickets[i];
     }
-    after
-}
-
-// The answer, and the tickets and the coordinator afterwards.
-#[derive(Clone, Copy)]
-pub struct Close {
-    pub answer: Closed,
-    pub tickets: [Ticket; 16],
-    pub coordinator: Coordinator,
 }
 
 // Closes the open range of that version: its list goes to the next older range, or becomes due where there is none.
-pub fn close_range(tickets: [Ticket; 16], coordinator: Coordinator, version: Version) -> Close
-    requires { CloseReady tickets coordinator }
-    ensures { result ≡ closing tickets coordinator version.0 }
+pub fn close_range(
+    tickets: &mut [Ticket; 16],
+    coordinator: &mut Coordinator,
+    version: Version,
+) -> Result<u32, Refusal>
+    requires { CloseReady tickets.old coordinator.old }
+    ensures answer { result ≡ (closing tickets.old coordinator.old version.0).answer }
+    ensures tickets { tickets.new ≡ (closing tickets.old coordinator.old version.0).tickets }
+    ensures coordinator { coordinator.new ≡ (closing tickets.old coordinator.old version.0).coordinator }
 {
-    let ranges = coordinator.ranges;
-    let open = wide(ranges);
-    let j = find_ticket(tickets, open, version);
-    if j >= open {
-        return Close {
-            answer: Closed::Refused(11),
-            tickets,
-            coordinator,
-        };
-    }
-    let counter = coordinator.counter;
-    let due = coordinator.due;
-    let ticket = tickets[j];
-    let held = ticket.held;
+    let ranges = coordinator.ranges as usize;
+    let Some(j) = find_ticket(&tickets[..ranges], version) else {
+        return Err(Refusal::NoSuchRange);
+    };
+    let held = tickets[j].held;
+    coordinator.ranges -= 1;
     if j == 0 {
-        let after = drop_ticket(tickets, open, j);
-        return Close {
-            answer: Closed::Due(held),
-            tickets: after,
-            coordinator: Coordinator {
-                counter,
-                ranges: ranges - 1,
-                due: due + held,
-            },
-        };
+        drop_ticket(tickets, ranges, j);
+        coordinator.due += held;
+        return Ok(held);
     }
-    let mut more = tickets;
-    let mut older = more[j - 1];
-    older.held += held;
-    more[j - 1] = older;
-    let after = drop_ticket(more, open, j);
-    Close {
-        answer: Closed::Due(0),
-        tickets: after,
-        coordinator: Coordinator {
-            counter,
-            ranges: ranges - 1,
-            due,
-        },
-    }
-}
-
-fn long(x: u32) -> u64
-    ensures { result ≡ x }
-{
-    x as u64
-}
-
-fn smaller(a: usize, b: usize) -> usize
-    ensures { result ≡ min a b }
-{
-    if a <= b { a } else { b }
+    tickets[j - 1].held += held;
+    drop_ticket(tickets, ranges, j);
+    Ok(0)
 }
 
 // Whether a range of that version may rest on the node. A version of 64 bits: that of a range opened now may be one more than the last.
@@ -122,15 +66,10 @@ fn may_rest(rows: &[u32], n: u32, version: u64) -> bool
     requires { Row rows.now n }
     ensures { result ≡ may_rest rows.now version n }
 {
-    let inserted = tables::inserted(rows, n);
-    if version <= long(inserted.0) {
+    if version <= u64::from(tables::inserted(rows, n).0) {
         return false;
     }
-    if cell(rows, n, PLACE) == IS_PRESENT {
-        return true;
-    }
-    let removed = tables::removed(rows, n);
-    version <= long(removed.0)
+    cell(rows, n, Column::Place) == IS_PRESENT || version <= u64::from(tables::removed(rows, n).0)
 }
 
 // How a walk ended: how many pairs it handed out, whether none is left, and where the range rests then.
@@ -161,10 +100,10 @@ fn walk_range(
     let mut i: usize = 0;
     while m < cap {
         if !may_rest(rows, m, version) {
-            m = levels::link(rows, 0, AFTER, m);
+            m = levels::link(rows, 0, Direction::After, m);
             continue;
         }
-        let at = wide(m);
+        let at = m as usize;
         let key = keys[at];
         if high < key {
             return Walked {
@@ -183,7 +122,7 @@ fn walk_range(
         out_keys[i] = sizes::unrank(key);
         out_values[i] = values[at];
         i += 1;
-        m = levels::link(rows, 0, AFTER, m);
+        m = levels::link(rows, 0, Direction::After, m);
     }
     Walked {
         count: i,
@@ -192,73 +131,44 @@ fn walk_range(
     }
 }
 
-// The answer, and the tickets afterwards.
-#[derive(Clone, Copy)]
-pub struct Step {
-    pub answer: Stepped,
-    pub tickets: [Ticket; 16],
-}
-
-// Hands out the pairs of the next nodes that the range of that version needs, as many as both buffers have places for.
+// Hands out the next pairs of the open range of that version, as many as both buffers have places for, and moves its ticket on.
 pub fn step_range(
     keys: &[u64],
     values: &[i64],
     rows: &[u32],
-    tickets: [Ticket; 16],
+    tickets: &mut [Ticket; 16],
     ranges: u32,
     version: Version,
     out_keys: &mut [i64],
     out_values: &mut [i64],
-) -> Step
-    requires { StepReady keys.now values.now rows.now tickets ranges }
-    ensures { SteppedBy keys.now values.now rows.now tickets ranges version.0 out_keys.old out_values.old out_keys.new out_values.new result }
+) -> Result<Stepped, Refusal>
+    requires { StepReady keys.now values.now rows.now tickets.old ranges }
+    ensures { SteppedBy keys.now values.now rows.now tickets.old tickets.new ranges version.0 out_keys.old out_values.old out_keys.new out_values.new result }
 {
-    let open = wide(ranges);
-    let j = find_ticket(tickets, open, version);
-    if j >= open {
-        return Step {
-            answer: Stepped::Refused(11),
-            tickets,
-        };
-    }
-    let room = smaller(out_keys.len(), out_values.len());
+    let Some(j) = find_ticket(&tickets[..ranges as usize], version) else {
+        return Err(Refusal::NoSuchRange);
+    };
+    let room = out_keys.len().min(out_values.len());
     if room == 0 {
-        return Step {
-            answer: Stepped::Refused(8),
-            tickets,
-        };
+        return Err(Refusal::TooFewPlaces);
     }
-    let mut after = tickets;
-    let mut ticket = after[j];
-    let opened = ticket.version;
-    let rest = ticket.rest;
+    let ticket = tickets[j];
     let walked = walk_range(
         keys,
         values,
         rows,
-        long(opened.0),
+        u64::from(ticket.version.0),
         ticket.high,
-        rest.0,
+        ticket.rest.0,
         room,
         out_keys,
         out_values,
     );
-    let next = Node(walked.rest);
-    ticket.rest = next;
-    after[j] = ticket;
-    let count = walked.count as u32;
-    Step {
-        answer: Stepped::Pairs(count, walked.finished),
-        tickets: after,
-    }
-}
-
-// The answer, and the tickets and the coordinator afterwards.
-#[derive(Clone, Copy)]
-pub struct Open {
-    pub answer: Opened,
-    pub tickets: [Ticket; 16],
-    pub coordinator: Coordinator,
+    tickets[j].rest = Node(walked.rest);
+    Ok(Stepped {
+        pairs: walked.count as u32,
+        finished: walked.finished,
+    })
 }
 
 // Opens a range over the keys from `low` to `high`: it sees the nodes that are present now, and rests on the first at or above `low`.
@@ -266,59 +176,37 @@ pub fn open_range(
     keys: &[u64],
     rows: &[u32],
     buckets: &[u32],
-    tickets: [Ticket; 16],
-    coordinator: Coordinator,
+    tickets: &mut [Ticket; 16],
+    coordinator: &mut Coordinator,
     low: i64,
     high: i64,
-) -> Open
+) -> Result<Version, Refusal>
     requires { NearReady keys.now rows.now buckets.now }
-    ensures { result ≡ opening keys.now rows.now tickets coordinator low high }
+    ensures answer { result ≡ (opening keys.now rows.now tickets.old coordinator.old low high).answer }
+    ensures tickets { tickets.new ≡ (opening keys.now rows.now tickets.old coordinator.old low high).tickets }
+    ensures coordinator { coordinator.new ≡ (opening keys.now rows.now tickets.old coordinator.old low high).coordinator }
 {
     if high < low {
-        return Open {
-            answer: Opened::Refused(6),
-            tickets,
-            coordinator,
-        };
+        return Err(Refusal::BoundsReversed);
     }
-    let ranges = coordinator.ranges;
-    if ranges >= 16 {
-        return Open {
-            answer: Opened::Refused(9),
-            tickets,
-            coordinator,
-        };
+    if coordinator.ranges >= 16 {
+        return Err(Refusal::AllTicketsOpen);
     }
-    let counter = coordinator.counter;
-    if counter.0 >= 4294967295 {
-        return Open {
-            answer: Opened::Refused(10),
-            tickets,
-            coordinator,
-        };
-    }
-    let version = Version(counter.0 + 1);
+    let Some(counter) = coordinator.counter.0.checked_add(1) else {
+        return Err(Refusal::LastVersion);
+    };
+    let version = Version(counter);
     let bottom = sizes::rank(low);
-    let top = sizes::rank(high);
-    let rest = Node(finds::near(keys, rows, buckets, bottom, AFTER, true));
-    let mut after = tickets;
-    let last = wide(ranges);
-    after[last] = Ticket {
+    tickets[coordinator.ranges as usize] = Ticket {
         version,
         low: bottom,
-        high: top,
-        rest,
+        high: sizes::rank(high),
+        rest: Node(finds::near(keys, rows, buckets, bottom, Direction::After, true)),
         held: 0,
     };
-    Open {
-        answer: Opened::At(version),
-        tickets: after,
-        coordinator: Coordinator {
-            counter: version,
-            ranges: ranges + 1,
-            due: coordinator.due,
-        },
-    }
+    coordinator.counter = version;
+    coordinator.ranges += 1;
+    Ok(version)
 }
 
 // Lays the first `count` elements of `source` at the front of `target`.
@@ -326,11 +214,7 @@ fn lay(source: &[i64], count: usize, target: &mut [i64])
     requires { (count ≤ length source.now) × (count ≤ length target.old) }
     ensures { target.new ≡ written target.old 0 (take count source.now) }
 {
-    let mut i: usize = 0;
-    while i < count {
-        target[i] = source[i];
-        i += 1;
-    }
+    target[..count].copy_from_slice(&source[..count]);
 }
 
 // A fast range hands out at most so many pairs.
@@ -347,21 +231,21 @@ pub fn fast_range(
     high: i64,
     out_keys: &mut [i64],
     out_values: &mut [i64],
-) -> Ranged
+) -> Result<u32, Refusal>
     requires { FastReady keys.now values.now rows.now buckets.now }
     ensures { RangedBy keys.now values.now rows.now counter.0 low high out_keys.old out_values.old out_keys.new out_values.new result }
 {
     if high < low {
-        return Ranged::Refused(6);
+        return Err(Refusal::BoundsReversed);
     }
-    let rest = finds::near(keys, rows, buckets, sizes::rank(low), AFTER, true);
+    let rest = finds::near(keys, rows, buckets, sizes::rank(low), Direction::After, true);
     let mut found_keys = [0i64; FAST];
     let mut found_values = [0i64; FAST];
     let walked = walk_range(
         keys,
         values,
         rows,
-        long(counter.0) + 1,
+        u64::from(counter.0) + 1,
         sizes::rank(high),
         rest,
         FAST,
@@ -369,14 +253,13 @@ pub fn fast_range(
         &mut found_values,
     );
     if !walked.finished {
-        return Ranged::Refused(7);
+        return Err(Refusal::TooManyPairs);
     }
     let count = walked.count;
-    if smaller(out_keys.len(), out_values.len()) < count {
-        return Ranged::Refused(8);
+    if out_keys.len().min(out_values.len()) < count {
+        return Err(Refusal::TooFewPlaces);
     }
     lay(&found_keys, count, out_keys);
     lay(&found_values, count, out_values);
-    let pairs = count as u32;
-    Ranged::Pairs(pairs)
+    Ok(count as u32)
 }

@@ -1,5 +1,6 @@
 -- The cases of a hand-over, and of a sweep, as the code comes to them.
 -- Assumes nothing.
+use Rattle.model.specs.declared.Refusal.TheVariants.{NodeNotPending}
 use mathlib.Core.Path.{◌≡◌, refl, sym}
 use mathlib.Core.Logic.{◌≢◌}
 use mathlib.Core.List.{List}
@@ -10,7 +11,7 @@ use Rattle.rows.specs.Rows.{places, insertions}
 use Rattle.places.specs.Places.{first_retired}
 use Rattle.places.specs.Changes.{taken}
 use Rattle.model.specs.declared.Handed.{Handed}
-use Rattle.model.specs.declared.Handed.TheVariants.{Refused, Freed, Held}
+use Rattle.model.specs.declared.Handed.TheVariants.{Err, Freed, Held}
 use Rattle.model.specs.declared.Swept.TheVariants.{Nodes}
 use Rattle.tables.specs.declared.Ticket.{Ticket}
 use Rattle.tables.specs.declared.Coordinator.{Coordinator}
@@ -23,11 +24,11 @@ module _ (rows : List ℕ) (cap : ℕ) (ts : List Ticket) (k n : ℕ) where
   pub handed : {rows' : List ℕ} {ts' : List Ticket} (h : Handed) → handing rows cap ts k n ≡ h → rows' ≡ handed_rows h rows cap n → ts' ≡ handed_tickets h ts k → HandedOver rows rows' cap ts ts' k n h
   handed h e r t = record { answer = sym e; cells = rw e r; tickets = rw e t }
 
-  pub case_far : cap ≤ n → handing rows cap ts k n ≡ Refused 12
+  pub case_far : cap ≤ n → handing rows cap ts k n ≡ Err NodeNotPending
   unfolding handing
   case_far h = rw (le-leb cap n h)
 
-  pub case_other : n < cap → places rows n ≢ 2 → handing rows cap ts k n ≡ Refused 12
+  pub case_other : n < cap → places rows n ≢ 2 → handing rows cap ts k n ≡ Err NodeNotPending
   unfolding handing
   case_other l d = rw (lt-leb cap n l, ne_eqb (places rows n) 2 d)
 

@@ -1,5 +1,6 @@
 -- What the cells of a hand-over mean: the model's answer, the model's next state, and sound tables.
 -- Assumes nothing.
+use Rattle.model.specs.declared.Refusal.TheVariants.{NodeNotPending}
 use mathlib.Core.Path.{◌≡◌, refl, ap, ◌∙◌, subst}
 use mathlib.Core.Logic.{◌≢◌, ⊎_elim}
 use mathlib.Core.Bool.{Bool, true, false, cond}
@@ -32,7 +33,7 @@ use Rattle.model.specs.Model as M
 use Rattle.model.specs.Calls.{hand_over, refused, handed}
 use Rattle.model.specs.Answers.{of_handed}
 use Rattle.model.specs.declared.Handed.{Handed}
-use Rattle.model.specs.declared.Handed.TheVariants.{Refused, Freed, Held}
+use Rattle.model.specs.declared.Handed.TheVariants.{Err, Freed, Held}
 use Rattle.tables.specs.declared.Ticket.{Ticket}
 use Rattle.tables.specs.Tables.{Tables, capacity_of, levels_of, Memory, Used, Resting, Sound, Met, view, place_of, node_at, nodes_of, range_of, ranges_of, ticket_at, gained}
 use Rattle.tables.proofs.Viewing.{shows, shows_none, nodes_moved}
@@ -107,7 +108,7 @@ module _ (t : Tables) (S : Sound t) (n : ℕ) where
   finish : (h : Handed) → handing_of t n ≡ h → Goal h → Goal (handing_of t n)
   finish h e g = rw e g
 
-  out : All (Differ n) (order_of rows cap) → Goal (Refused 12)
+  out : All (Differ n) (order_of rows cap) → Goal (Err NodeNotPending)
   unfolding view
   out a = met_same t (hand_over n) (refused 12) S (hand_none (view t) n (shows_none t.keys t.values rows n (order_of rows cap) a))
 
@@ -115,7 +116,7 @@ module _ (t : Tables) (S : Sound t) (n : ℕ) where
   unfolding view
   find p = rw p.whole (shows t.keys t.values rows n p.front p.back)
 
-  other : Split n (order_of rows cap) → places rows n ≢ 2 → Goal (Refused 12)
+  other : Split n (order_of rows cap) → places rows n ≢ 2 → Goal (Err NodeNotPending)
   unfolding node_at
   other p d =
       met_same t (hand_over n) (refused 12) S
@@ -243,7 +244,7 @@ module _ (t : Tables) (S : Sound t) (n : ℕ) where
   hand_meets = go (dec_le cap n) (ℕ_discrete (places rows n) 2)
     where
       go : Dec (cap ≤ n) → Dec (places rows n ≡ 2) → Goal (handing_of t n)
-      go (yes h) d = finish (Refused 12) (case_far rows cap t.tickets k n h) (out (all_imp (λ x. x < cap) (Differ n) (λ x j. omega arith) (order_of rows cap) S.memory.linked.nodes))
+      go (yes h) d = finish (Err NodeNotPending) (case_far rows cap t.tickets k n h) (out (all_imp (λ x. x < cap) (Differ n) (λ x j. omega arith) (order_of rows cap) S.memory.linked.nodes))
       go (no h) (yes e) = pending (omega arith) e
       go (no h) (no d) =
-          finish (Refused 12) (case_other rows cap t.tickets k n (omega arith) d) (⊎_elim (λ j. other (in_split n (order_of rows cap) j) d) out (found_or_not n (order_of rows cap)))
+          finish (Err NodeNotPending) (case_other rows cap t.tickets k n (omega arith) d) (⊎_elim (λ j. other (in_split n (order_of rows cap) j) d) out (found_or_not n (order_of rows cap)))

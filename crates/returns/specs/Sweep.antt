@@ -4,15 +4,14 @@ use Rattle.std.specs.Prelude.{◌≡◌, List, ℕ, zero, suc, ◌<◌, length}
 use Rattle.places.specs.Places.{Sized, ring_of, ring_front, first_retired}
 use Rattle.places.specs.Changes.{taken}
 use Rattle.model.specs.declared.Swept.{Swept}
-use Rattle.model.specs.declared.Swept.TheVariants.{Nodes}
 use Rattle.tables.specs.declared.Coordinator.{Coordinator}
 use Rattle.tables.specs.Tables.{Tables, capacity_of}
 use Rattle.returns.specs.Freeing.{Freeable, freed}
 
 -- how many were freed, and how many stay due
 abbrev pub sweeping : ℕ → Swept
-sweeping zero = Nodes 0 0
-sweeping (suc due) = Nodes 1 due
+sweeping zero = record { freed = 0; due = 0 }
+sweeping (suc due) = record { freed = 1; due = due }
 
 -- the first due node is taken off the ring and freed
 abbrev pub swept_rows : ℕ → List ℕ → ℕ → List ℕ

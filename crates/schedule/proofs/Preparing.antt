@@ -1,5 +1,8 @@
 -- Set-up on memory that is cut to the capacity: its result, and the tables afterwards.
 -- Assumes nothing.
+use Rattle.std.specs.Prelude.{Result, Ok, Err, Some, None, ⊤, Option}
+use Rattle.model.specs.declared.Refusal.{Refusal}
+use Rattle.model.specs.declared.Refusal.TheVariants.{NotSound}
 use mathlib.Core.Path.{◌≡◌, refl, sym, ap, ap₂, ◌∙◌, subst}
 use mathlib.Core.Bool.{Bool, true, false, cond}
 use mathlib.Core.List.{List, [], ◌∷◌, ◌++◌}
@@ -12,10 +15,7 @@ use borrow.Author.Tests.{leb-true, leb-false, eq-eqb, ne_eqb}
 use Rattle.lists.specs.Holds.{All}
 use Rattle.sizes.specs.declared.Version.{Version}
 use Rattle.sizes.specs.declared.Size.{Size}
-use Rattle.sizes.specs.declared.Sized.{Sized}
-use Rattle.sizes.specs.declared.Sized.TheVariants.{Of, Nothing}
 use Rattle.sizes.specs.Sizes.{sizes, seek, size_of}
-use Rattle.model.specs.declared.SetUp.{SetUp}
 use Rattle.tables.specs.declared.Ticket.{Ticket}
 use Rattle.tables.specs.declared.Coordinator.{Coordinator}
 use Rattle.tables.specs.Tables.{Tables}
@@ -26,9 +26,9 @@ use Rattle.schedule.specs.SetUps.{result_in, set_up_result, answer_number, Memor
 
 -- ---- the parts that are lent are parts of the memory
 
-pub lengths_fit : (s : Sized) → ((lengths_of s).nodes ≤ 256) × ((lengths_of s).rows ≤ 8256) × ((lengths_of s).buckets ≤ 367)
-lengths_fit (Of size) = (omega arith, omega arith, omega arith)
-lengths_fit Nothing = (omega arith, omega arith, omega arith)
+pub lengths_fit : (s : Option Size) → ((lengths_of s).nodes ≤ 256) × ((lengths_of s).rows ≤ 8256) × ((lengths_of s).buckets ≤ 367)
+lengths_fit (Some size) = (omega arith, omega arith, omega arith)
+lengths_fit None = (omega arith, omega arith, omega arith)
 
 pub record Fits (l : Lengths) (m : Memory) : Type 0 where
   pub of_keys : l.nodes ≤ length m.keys
@@ -37,7 +37,7 @@ pub record Fits (l : Lengths) (m : Memory) : Type 0 where
   pub of_buckets : l.buckets ≤ length m.buckets
 
 -- LAW: the lengths that a capacity asks for
-pub memory_fits : (s : Sized) {l : Lengths} {m : Memory} → l ≡ lengths_of s → Whole m → Fits l m
+pub memory_fits : (s : Option Size) {l : Lengths} {m : Memory} → l ≡ lengths_of s → Whole m → Fits l m
 memory_fits s e m =
     let f = lengths_fit s in
     rw e (record { of_keys = omega (arith, f.0, m.keyed); of_values = omega (arith, f.0, m.valued); of_rows = omega (arith, f.1, m.rowed); of_buckets = omega (arith, f.2, m.bucketed) })
@@ -49,19 +49,19 @@ part_front d e n h f = take_at e (drop n d) n (h ∙ length-take-le n d f)
 -- ---- the result
 
 -- what holds of each entry of the table holds of the one that is sought
-seek_all : (P : Size → Type 0) (ss : List Size) → All P ss → (c : ℕ) (s : Size) → seek ss c ≡ Of s → P s
+seek_all : (P : Size → Type 0) (ss : List Size) → All P ss → (c : ℕ) (s : Size) → seek ss c ≡ Some s → P s
 seek_all P [] a c s e = let z : ◌≡◌ {A = ℕ} 0 1 = cc in absurd (omega arith)
 seek_all P (x ∷ xs) a c s e = go (eqb x.capacity c) refl (seek_all P xs a.1 c s)
   where
-    go : (b : Bool) → eqb x.capacity c ≡ b → (seek xs c ≡ Of s → P s) → P s
+    go : (b : Bool) → eqb x.capacity c ≡ b → (seek xs c ≡ Some s → P s) → P s
     go true f r =
-        let g : Of x ≡ Of s = rw f at e in
+        let g : Some x ≡ Some s = rw f at e in
         let h : x ≡ s = cc in
         subst P h a.0
     go false f r = r (rw f at e)
 
 -- a capacity that there is memory for has buckets that there is memory for
-small_buckets : (c : ℕ) (s : Size) → size_of c ≡ Of s → s.capacity ≤ 256 → s.buckets ≤ 367
+small_buckets : (c : ℕ) (s : Size) → size_of c ≡ Some s → s.capacity ≤ 256 → s.buckets ≤ 367
 unfolding size_of
 small_buckets c s e =
     seek_all (λ (s : Size). s.capacity ≤ 256 → s.buckets ≤ 367) sizes
@@ -84,15 +84,15 @@ fits_is size t small k v r b = go (leb size.capacity 256) refl
     go false e = let l = leb-false size.capacity 256 e in rw (ne_eqb (length t.keys) size.capacity (λ x. omega (arith, k)))
 
 -- the number of an answer of set-up is 0 only where it is done
-done_of : (s : Sized) (t : Tables) → answer_number (answer_in s t) ≡ 0 → answer_in s t ≡ SetUp.Done
-done_of Nothing t e = absurd (omega arith)
-done_of (Of size) t e = go (fits size t) refl
+done_of : (s : Option Size) (t : Tables) → answer_number (answer_in s t) ≡ 0 → answer_in s t ≡ (Ok tt)
+done_of None t e = absurd (omega arith)
+done_of (Some size) t e = go (fits size t) refl
   where
-    go : (b : Bool) → fits size t ≡ b → cond (fits size t) SetUp.Done (SetUp.Refused 1) ≡ SetUp.Done
+    go : (b : Bool) → fits size t ≡ b → cond (fits size t) (Ok tt) (Err NotSound) ≡ (Ok tt)
     go true f = rw f
     go false f = let z : ◌≡◌ {A = ℕ} 1 0 = rw f at e in absurd (omega arith)
 
-module _ {m : Memory} (capacity : ℕ) (start : Version) {l : Lengths} {tickets tickets' : List Ticket} {co co' : Coordinator} {a : SetUp} {rows' buckets' : List ℕ}
+module _ {m : Memory} (capacity : ℕ) (start : Version) {l : Lengths} {tickets tickets' : List Ticket} {co co' : Coordinator} {a : Result ⊤ Refusal} {rows' buckets' : List ℕ}
     (w : Whole m) (e : l ≡ lengths_of (size_of capacity))
     (s : SetUpBy (cut m l tickets co) (lent (take l.nodes m.keys) (take l.nodes m.values) rows' buckets' tickets' co') capacity start a)
     (r : length rows' ≡ length (take l.rows m.rows)) (b : length buckets' ≡ length (take l.buckets m.buckets)) where
@@ -109,10 +109,10 @@ module _ {m : Memory} (capacity : ℕ) (start : Version) {l : Lengths} {tickets 
   result_is : answer_number a ≡ set_up_result capacity
   result_is = ap answer_number answer_is ∙ go (size_of capacity) refl
     where
-      go : (x : Sized) → size_of capacity ≡ x → answer_number (answer_in x t) ≡ result_in x
-      go Nothing q = refl
-      go (Of size) q =
-          let n : l ≡ lengths_of (Of size) = e ∙ ap lengths_of q in
+      go : (x : Option Size) → size_of capacity ≡ x → answer_number (answer_in x t) ≡ result_in x
+      go None q = refl
+      go (Some size) q =
+          let n : l ≡ lengths_of (Some size) = e ∙ ap lengths_of q in
           let i = fits_is size t (small_buckets capacity size q)
           (length-take-le l.nodes m.keys f.of_keys ∙ ap (λ (x : Lengths). x.nodes) n)
           (length-take-le l.nodes m.values f.of_values ∙ ap (λ (x : Lengths). x.nodes) n)
@@ -120,16 +120,16 @@ module _ {m : Memory} (capacity : ℕ) (start : Version) {l : Lengths} {tickets 
           (length-take-le l.buckets m.buckets f.of_buckets ∙ ap (λ (x : Lengths). x.buckets) n) in
           rw i (by (leb size.capacity 256))
         where
-          by : (x : Bool) → answer_number (cond x SetUp.Done (SetUp.Refused 1)) ≡ cond x 0 1
+          by : (x : Bool) → answer_number (cond x (Ok tt) (Err NotSound)) ≡ cond x 0 1
           by true = refl
           by false = refl
 
   tables_same : (answer_number a ≡ 0 → ⊥) → set_up_tables t capacity start ≡ t
   tables_same n = go (set_up_answer t capacity) refl
     where
-      go : (x : SetUp) → set_up_answer t capacity ≡ x → set_up_tables t capacity start ≡ t
-      go SetUp.Done q = absurd (n (ap answer_number (s.answer ∙ q)))
-      go (SetUp.Refused k) q = rw q
+      go : (x : Result ⊤ Refusal) → set_up_answer t capacity ≡ x → set_up_tables t capacity start ≡ t
+      go (Ok tt) q = absurd (n (ap answer_number (s.answer ∙ q)))
+      go (Err k) q = rw q
 
   -- LAW: what set-up leaves of the memory, and its result
   pub prepared : {n : ℕ} → n ≡ answer_number a
@@ -141,7 +141,7 @@ module _ {m : Memory} (capacity : ℕ) (start : Version) {l : Lengths} {tickets 
         lengths = e;
         fresh =
             λ z.
-            (let d : a ≡ SetUp.Done = answer_is ∙ done_of (size_of capacity) t (sym (ap answer_number answer_is) ∙ (sym n ∙ z)) in
+            (let d : a ≡ (Ok tt) = answer_is ∙ done_of (size_of capacity) t (sym (ap answer_number answer_is) ∙ (sym n ∙ z)) in
             rw (part_front m.rows rows' l.rows r f.of_rows, part_front m.buckets buckets' l.buckets b f.of_buckets)
             (record { sound = s.sound d; shows = s.model d }));
         same =

@@ -1,11 +1,11 @@
 -- Set-up as the header asks for it: its result, and the parts of the memory that are lent.
 -- Assumes nothing.
+use Rattle.std.specs.Prelude.{Result, Ok, Err, Some, None, ⊤, Option}
+use Rattle.sizes.specs.declared.Size.{Size}
+use Rattle.model.specs.declared.Refusal.{Refusal}
 use Rattle.std.specs.Prelude.{◌≡◌, cond, List, ℕ, ◌+◌, ◌*◌, min, leb, length, take, ℤ}
 use Rattle.sizes.specs.declared.Version.{Version}
-use Rattle.sizes.specs.declared.Sized.{Sized}
-use Rattle.sizes.specs.declared.Sized.TheVariants.{Of, Nothing}
 use Rattle.sizes.specs.Sizes.{size_of}
-use Rattle.model.specs.declared.SetUp.{SetUp}
 use Rattle.tables.specs.declared.Ticket.{Ticket}
 use Rattle.tables.specs.declared.Coordinator.{Coordinator}
 use Rattle.tables.specs.Tables.{Tables}
@@ -15,17 +15,17 @@ use Rattle.schedule.specs.declared.Lengths.{Lengths}
 use Rattle.schedule.specs.declared.Prepared.{Prepared}
 
 -- the result of set-up: 0 for a capacity of the table up to 256, 1 for a larger one in the table, 2 for any other
-abbrev pub result_in : Sized → ℕ
-result_in (Of size) = cond (leb size.capacity 256) 0 1
-result_in Nothing = 2
+abbrev pub result_in : Option Size → ℕ
+result_in (Some size) = cond (leb size.capacity 256) 0 1
+result_in None = 2
 
 abbrev pub set_up_result : ℕ → ℕ
 set_up_result capacity = result_in (size_of capacity)
 
 -- a result as a number: 0, or the refusal
-abbrev pub answer_number : SetUp → ℕ
-answer_number SetUp.Done = 0
-answer_number (SetUp.Refused n) = n
+abbrev pub answer_number : Result ⊤ Refusal → ℕ
+answer_number (Ok tt) = 0
+answer_number (Err n) = n
 
 -- ---- the memory for tables
 
@@ -46,10 +46,10 @@ pub record Whole (m : Memory) : Type 0 where
   pub bucketed : length m.buckets ≡ 367
 
 -- the lengths of the parts that are lent for a size
-abbrev pub lengths_of : Sized → Lengths
-lengths_of (Of size) =
+abbrev pub lengths_of : Option Size → Lengths
+lengths_of (Some size) =
     record { nodes = min size.capacity 256; rows = min ((size.capacity + 2) * 32) 8256; buckets = min size.buckets 367 }
-lengths_of Nothing = record { nodes = 0; rows = 0; buckets = 0 }
+lengths_of None = record { nodes = 0; rows = 0; buckets = 0 }
 
 -- the tables of these parts
 abbrev pub cut : Memory → Lengths → List Ticket → Coordinator → Tables

@@ -1,5 +1,7 @@
 -- Set-up makes sound tables that show the model's state after set-up; a refusal leaves them as they were.
 -- Assumes nothing.
+use Rattle.std.specs.Prelude.{Ok, Err, Some, None, Option as Optional}
+use Rattle.model.specs.declared.Refusal.TheVariants.{NotSound, NoSuchCapacity}
 use mathlib.Core.Path.{◌≡◌, refl, sym, ap, ◌∙◌}
 use mathlib.Core.Bool.{Bool, true, false, cond}
 use mathlib.Core.List.{List, []}
@@ -14,8 +16,6 @@ use Rattle.lists.specs.Tests.{Says}
 use Rattle.lists.proofs.Comparing.{one_answer}
 use Rattle.sizes.specs.declared.Version.{Version}
 use Rattle.sizes.specs.declared.Size.{Size}
-use Rattle.sizes.specs.declared.Sized.{Sized as Known}
-use Rattle.sizes.specs.declared.Sized.TheVariants.{Of, Nothing}
 use Rattle.sizes.specs.Sizes.{size_of}
 use Rattle.sizes.proofs.Sizing.{size_rule}
 use Rattle.rows.specs.Rows.{column, places}
@@ -30,7 +30,6 @@ use Rattle.places.proofs.Counting.{cleared_counted}
 use Rattle.places.proofs.Frames.{Same, same_free, same_ring, same_counted, same_kept}
 use Rattle.buckets.specs.Buckets.{Buckets, Present}
 use Rattle.buckets.proofs.Keeping.{buckets_fresh}
-use Rattle.model.specs.declared.SetUp.{SetUp}
 use Rattle.model.specs.Model as M
 use Rattle.model.proofs.Order.{and_left, and_right}
 use Rattle.model.proofs.Reached.{well_fresh}
@@ -46,7 +45,7 @@ module _ (rows : List ℕ) (cap : ℕ) (size : length rows ≡ (cap + 2) * 32) (
   abbrev free : List ℕ
   free = P.cleared rows cap
 
-  sized : Sized rows cap
+  sized : Optional Size rows cap
   sized = record { size = size; small = (capacity cap known).most }
 
   free_size : length free ≡ (cap + 2) * 32
@@ -92,7 +91,7 @@ module _ (rows : List ℕ) (cap : ℕ) (size : length rows ≡ (cap + 2) * 32) (
 
 -- ---- the tables
 
-module _ (t : Tables) (cap : ℕ) (start : Version) (s : Size) (e : size_of cap ≡ Of s) (p : Parts s (length t.keys) (length t.values) (length t.rows) (length t.buckets)) where
+module _ (t : Tables) (cap : ℕ) (start : Version) (s : Size) (e : size_of cap ≡ Some s) (p : Parts s (length t.keys) (length t.values) (length t.rows) (length t.buckets)) where
   asked : s.capacity ≡ cap
   asked = (size_rule cap s e).asked
 
@@ -106,7 +105,7 @@ module _ (t : Tables) (cap : ℕ) (start : Version) (s : Size) (e : size_of cap 
   rowed = p.rowed ∙ ap (λ (n : ℕ). (n + 2) * 32) asked
 
   -- what clearing the rows relies on
-  pub rows_sized : Sized t.rows cap
+  pub rows_sized : Optional Size t.rows cap
   rows_sized = sized t.rows cap rowed known
 
   abbrev new : Tables
@@ -172,49 +171,49 @@ fits_says s t =
     }
 
 -- a refusal is not done
-refused_done : {A : Type 0} (n : ℕ) → SetUp.Refused n ≡ SetUp.Done → A
+refused_done : {A : Type 0} (n : ℕ) → Err n ≡ (Ok tt) → A
 refused_done n e = let z : ◌≡◌ {A = ℕ} 0 1 = cc in absurd (omega arith)
 
 -- LAW: refused with 2 exactly where the model's set-up gives no state
-pub unknown_model : (t : Tables) (cap start : ℕ) → set_up_answer t cap ≡ SetUp.Refused 2 → M.set_up cap start ≡ none
+pub unknown_model : (t : Tables) (cap start : ℕ) → set_up_answer t cap ≡ Err NoSuchCapacity → M.set_up cap start ≡ none
 unfolding set_up_answer M.set_up
 unknown_model t cap start e = go (size_of cap) e
   where
-    other : (b : Bool) → cond b SetUp.Done (SetUp.Refused 1) ≡ SetUp.Refused 2 → ⊥
+    other : (b : Bool) → cond b (Ok tt) (Err NotSound) ≡ Err NoSuchCapacity → ⊥
     other true f = refused_done 2 (sym f)
     other false f = let z : ◌≡◌ {A = ℕ} 1 2 = cc in omega arith
 
-    go : (z : Known) → answer_in z t ≡ SetUp.Refused 2 → M.fresh_of start z ≡ none
-    go Nothing f = refl
-    go (Of s) f = absurd (other (fits s t) f)
+    go : (z : Optional Size) → answer_in z t ≡ Err NoSuchCapacity → M.fresh_of start z ≡ none
+    go None f = refl
+    go (Some s) f = absurd (other (fits s t) f)
 
-pub model_unknown : (t : Tables) (cap start : ℕ) → M.set_up cap start ≡ none → set_up_answer t cap ≡ SetUp.Refused 2
+pub model_unknown : (t : Tables) (cap start : ℕ) → M.set_up cap start ≡ none → set_up_answer t cap ≡ Err NoSuchCapacity
 unfolding set_up_answer M.set_up
 model_unknown t cap start e = go (size_of cap) e
   where
-    go : (z : Known) → M.fresh_of start z ≡ none → answer_in z t ≡ SetUp.Refused 2
-    go Nothing f = refl
-    go (Of s) f = let z : ◌≡◌ {A = ℕ} 0 1 = cc in absurd (omega arith)
+    go : (z : Optional Size) → M.fresh_of start z ≡ none → answer_in z t ≡ Err NoSuchCapacity
+    go None f = refl
+    go (Some s) f = let z : ◌≡◌ {A = ℕ} 0 1 = cc in absurd (omega arith)
 
 module _ (t : Tables) (cap : ℕ) (start : Version) where
-  refused : (n : ℕ) → set_up_answer t cap ≡ SetUp.Refused n → SetUpBy t t cap start (SetUp.Refused n)
+  refused : (n : ℕ) → set_up_answer t cap ≡ Err n → SetUpBy t t cap start (Err n)
   refused n e = record { answer = sym e; tables = rw e; sound = λ d. refused_done n d; model = λ d. refused_done n d }
 
   -- LAW: no such capacity
-  pub set_up_unknown : size_of cap ≡ Nothing → SetUpBy t t cap start (SetUp.Refused 2)
+  pub set_up_unknown : size_of cap ≡ None → SetUpBy t t cap start (Err NoSuchCapacity)
   unfolding set_up_answer
   set_up_unknown e = refused 2 (rw e)
 
-  module _ (s : Size) (e : size_of cap ≡ Of s) (r : Bool) (h : Says r (Parts s (length t.keys) (length t.values) (length t.rows) (length t.buckets))) where
-    tested : (b : Bool) → r ≡ b → set_up_answer t cap ≡ cond b SetUp.Done (SetUp.Refused 1)
+  module _ (s : Size) (e : size_of cap ≡ Some s) (r : Bool) (h : Says r (Parts s (length t.keys) (length t.values) (length t.rows) (length t.buckets))) where
+    tested : (b : Bool) → r ≡ b → set_up_answer t cap ≡ cond b (Ok tt) (Err NotSound)
     unfolding set_up_answer
     tested b q = rw (e, one_answer (fits s t) r (fits_says s t) h, q)
 
     -- LAW: a part has the wrong length
-    pub set_up_short : r ≡ false → SetUpBy t t cap start (SetUp.Refused 1)
+    pub set_up_short : r ≡ false → SetUpBy t t cap start (Err NotSound)
     set_up_short q = refused 1 (tested false q)
 
-    done : r ≡ true → SetUpBy t (fresh_tables t cap start) cap start SetUp.Done
+    done : r ≡ true → SetUpBy t (fresh_tables t cap start) cap start (Ok tt)
     done q =
         record {
           answer = sym (tested true q);
@@ -225,7 +224,7 @@ module _ (t : Tables) (cap : ℕ) (start : Version) where
 
     -- LAW: the tables are fresh, as the code comes to them
     pub set_up_done : r ≡ true → (rows buckets : List ℕ) (tickets : List Ticket) → rows ≡ L.cleared (P.cleared t.rows cap) cap s.levels → buckets ≡ replicate (length t.buckets) cap → tickets ≡ fresh_tickets
-        → SetUpBy t (lent t.keys t.values rows buckets tickets (fresh_coordinator start)) cap start SetUp.Done
+        → SetUpBy t (lent t.keys t.values rows buckets tickets (fresh_coordinator start)) cap start (Ok tt)
     unfolding fresh_tables fresh_rows levels_of buckets_of
     set_up_done q rows buckets tickets a b c =
         let l : levels_of cap ≡ s.levels = ap levels_in e in
@@ -233,5 +232,5 @@ module _ (t : Tables) (cap : ℕ) (start : Version) where
         rw (a, b, c, n, ← l) (done q)
 
 -- LAW: a refused set-up leaves the tables as they were, cell by cell
-pub set_up_unchanged : (t t' : Tables) (capacity : ℕ) (start : Version) (n : ℕ) → SetUpBy t t' capacity start (SetUp.Refused n) → t' ≡ t
+pub set_up_unchanged : (t t' : Tables) (capacity : ℕ) (start : Version) (n : ℕ) → SetUpBy t t' capacity start (Err n) → t' ≡ t
 set_up_unchanged t t' capacity start n o = o.tables ∙ ap (λ a. tables_after a t capacity start) (sym o.answer)

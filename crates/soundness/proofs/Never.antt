@@ -1,5 +1,7 @@
 -- What is never sound; and that the test and set-up have one outcome each.
 -- Assumes nothing.
+use Rattle.std.specs.Prelude.{Result, ⊤}
+use Rattle.model.specs.declared.Refusal.{Refusal}
 use mathlib.Core.Path.{◌≡◌, refl, sym, ap₂, ◌∙◌}
 use mathlib.Core.Logic.{◌≢◌, ⊎_elim}
 use mathlib.Core.Bool.{Bool}
@@ -23,7 +25,6 @@ use Rattle.levels.proofs.Orders.{turned, turned_all, sentinel_high, run_in, link
 use Rattle.levels.proofs.Nearing.{in_turned}
 use Rattle.levels.proofs.Testing.{run_distinct}
 use Rattle.buckets.proofs.Keeping.{present_on_chain}
-use Rattle.model.specs.declared.SetUp.{SetUp}
 use Rattle.tables.specs.Tables.{Tables, capacity_of, levels_of, Sound}
 use Rattle.soundness.specs.Tested.{Ordered}
 use Rattle.soundness.specs.SetUp.{SetUpBy}
@@ -107,6 +108,6 @@ pub one_test : (t : Tables) (r s : Bool) → Says r (Sound t) → Says s (Sound 
 one_test t r s = one_answer r s
 
 -- LAW: two outcomes of set-up are equal
-pub one_set_up : (t t₁ t₂ : Tables) (capacity : ℕ) (start : Version) (a₁ a₂ : SetUp) → SetUpBy t t₁ capacity start a₁ → SetUpBy t t₂ capacity start a₂
+pub one_set_up : (t t₁ t₂ : Tables) (capacity : ℕ) (start : Version) (a₁ a₂ : Result ⊤ Refusal) → SetUpBy t t₁ capacity start a₁ → SetUpBy t t₂ capacity start a₂
     → (t₁ ≡ t₂) × (a₁ ≡ a₂)
 one_set_up t t₁ t₂ capacity start a₁ a₂ p q = (p.tables ∙ sym q.tables, p.answer ∙ sym q.answer)

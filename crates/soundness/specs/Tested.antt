@@ -1,10 +1,10 @@
 -- What the soundness test looks at, said over the cells. That this comes to `Sound` is proved (proofs/Deciding).
 -- Assumes nothing.
+use Rattle.std.specs.Prelude.{Some}
 use Rattle.std.specs.Prelude.{◌≡◌, ◌⊎◌, ◌≢◌, Bool, List, [], ◌∷◌, ℕ, ◌+◌, ◌*◌, ◌<◌, ◌≤◌, length, get_or, take, drop, eqb, ℤ}
 use Rattle.lists.specs.Holds.{All, Pairwise}
 use Rattle.lists.specs.Filters.{filter}
 use Rattle.sizes.specs.declared.Size.{Size}
-use Rattle.sizes.specs.declared.Sized.TheVariants.{Of}
 use Rattle.sizes.specs.Sizes.{size_of}
 use Rattle.rows.specs.Rows.{insertions, removals, places}
 use Rattle.levels.specs.Levels.{order_of, Linked}
@@ -31,7 +31,7 @@ pub record Parts (size : Size) (keys values rows buckets : ℕ) : Type 0 where
 -- the number of keys is a capacity of the table, and the other parts fit it
 pub record Measured (keys values rows buckets : ℕ) : Type 0 where
   pub size : Size
-  pub known : size_of keys ≡ Of size
+  pub known : size_of keys ≡ Some size
   pub parts : Parts size keys values rows buckets
 
 -- what the tests below rely on: a row for each node and both sentinels, and a key for each node

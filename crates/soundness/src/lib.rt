@@ -11,10 +11,10 @@ ghost use Rattle.tables.specs.Tables.{Sound};
 ghost use Rattle.soundness.specs.SetUp.{SetUpBy};
 ghost use Rattle.soundness.specs.Tested.{lent, Parts, Measured, Ready, Timed, Ordered, Nodes, Rests, Opened, Ringed, Listed};
 
-use levels::{AFTER, link};
-use model::SetUp;
-use rows::{FREE, IS_FREE, IS_PRESENT, IS_RETIRED, PLACE, RING, cell, wide};
-use sizes::{Size, Sized, Version, size_of};
+use levels::link;
+use model::Refusal;
+use rows::{Column, Direction, IS_FREE, IS_PRESENT, IS_RETIRED, cell};
+use sizes::{Size, Version, size_of};
 use tables::{Coordinator, Ticket, inserted, removed};
 
 // The greatest capacity.
@@ -27,17 +27,11 @@ const TICKETS: u32 = 16;
 fn parts_ok(size: Size, keys: usize, values: usize, rows: usize, buckets: usize) -> bool
     ensures { Says result (Parts size keys values rows buckets) }
 {
-    let capacity = wide(size.capacity);
-    if keys != capacity {
-        return false;
-    }
-    if values != capacity {
-        return false;
-    }
-    if rows != (capacity + 2) * 32 {
-        return false;
-    }
-    buckets == wide(size.buckets)
+    let capacity = size.capacity as usize;
+    keys == capacity
+        && values == capacity
+        && rows == (capacity + 2) * 32
+        && buckets == size.buckets as usize
 }
 
 // Whether there are as many keys as a capacity of the table, and the other parts, by their lengths, fit it.
@@ -48,8 +42,8 @@ fn lengths_ok(keys: usize, values: usize, rows: usize, buckets: usize) -> bool
         return false;
     }
     match size_of(keys as u32) {
-        Sized::Of(size) => parts_ok(size, keys, values, rows, buckets),
-        Sized::Nothing => false,
+        Some(size) => parts_ok(size, keys, values, rows, buckets),
+        None => false,
     }
 }
 
@@ -58,22 +52,11 @@ fn node_ok(rows: &[u32], n: u32, counter: Version) -> bool
     requires { n * 32 + 32 ≤ length rows.now }
     ensures { Says result (Timed rows.now counter.0 n) }
 {
-    let place = cell(rows, n, PLACE);
-    if place == IS_FREE {
+    let place = cell(rows, n, Column::Place);
+    if place == IS_FREE || place > IS_RETIRED || inserted(rows, n).0 > counter.0 {
         return false;
     }
-    if place > IS_RETIRED {
-        return false;
-    }
-    let born = inserted(rows, n);
-    if born.0 > counter.0 {
-        return false;
-    }
-    if place == IS_PRESENT {
-        return true;
-    }
-    let gone = removed(rows, n);
-    gone.0 <= counter.0
+    place == IS_PRESENT || removed(rows, n).0 <= counter.0
 }
 
 // Whether the key of n goes before that of the next node, if there is one.
@@ -84,9 +67,9 @@ fn order_ok(keys: &[u64], rows: &[u32], cap: u32, n: u32, next: u32) -> bool
     if next >= cap {
         return true;
     }
-    let key = keys[wide(n)];
-    let later = keys[wide(next)];
-    if cell(rows, n, PLACE) == IS_PRESENT {
+    let key = keys[n as usize];
+    let later = keys[next as usize];
+    if cell(rows, n, Column::Place) == IS_PRESENT {
         return key < later;
     }
     key <= later
@@ -97,28 +80,28 @@ fn nodes_ok(keys: &[u64], rows: &[u32], cap: u32, counter: Version) -> bool
     requires { Ready keys.now rows.now cap × Lowest rows.now cap × Places rows.now cap }
     ensures { Says result (Nodes keys.now rows.now cap counter.0) }
 {
-    let mut n = link(rows, 0, AFTER, cap);
+    let mut n = link(rows, 0, Direction::After, cap);
     let mut linked: u32 = 0;
     let mut retired: u32 = 0;
     while n < cap {
         if !node_ok(rows, n, counter) {
             return false;
         }
-        let next = link(rows, 0, AFTER, n);
+        let next = link(rows, 0, Direction::After, n);
         if !order_ok(keys, rows, cap, n, next) {
             return false;
         }
-        let place = cell(rows, n, PLACE);
+        let place = cell(rows, n, Column::Place);
         n = next;
         linked += 1;
         if place == IS_RETIRED {
             retired += 1;
         }
     }
-    if linked + cell(rows, cap, FREE) != cap {
+    if linked + cell(rows, cap, Column::Free) != cap {
         return false;
     }
-    retired == cell(rows, cap + 1, RING)
+    retired == cell(rows, cap + 1, Column::Ring)
 }
 
 // Whether the ticket rests on the tail, or on a linked node that its range may rest on and whose key is not below the lower bound.
@@ -134,7 +117,7 @@ fn rest_ok(keys: &[u64], rows: &[u32], cap: u32, ticket: Ticket) -> bool
     if n >= cap {
         return false;
     }
-    let place = cell(rows, n, PLACE);
+    let place = cell(rows, n, Column::Place);
     if place == IS_FREE {
         return false;
     }
@@ -143,7 +126,7 @@ fn rest_ok(keys: &[u64], rows: &[u32], cap: u32, ticket: Ticket) -> bool
     if version.0 <= born.0 {
         return false;
     }
-    if keys[wide(n)] < ticket.low {
+    if keys[n as usize] < ticket.low {
         return false;
     }
     if place == IS_PRESENT {
@@ -154,34 +137,16 @@ fn rest_ok(keys: &[u64], rows: &[u32], cap: u32, ticket: Ticket) -> bool
 }
 
 // Whether the open tickets stand in the order of their versions, none above the counter, and each rests where it may.
-fn tickets_ok(
-    keys: &[u64],
-    rows: &[u32],
-    cap: u32,
-    tickets: [Ticket; 16],
-    ranges: usize,
-    counter: Version,
-) -> bool
-    requires { Ready keys.now rows.now cap × (ranges ≤ 16) }
-    ensures { Says result (Opened keys.now rows.now cap counter.0 (take ranges tickets)) }
+fn tickets_ok(keys: &[u64], rows: &[u32], cap: u32, tickets: &[Ticket], counter: Version) -> bool
+    requires { Ready keys.now rows.now cap }
+    ensures { Says result (Opened keys.now rows.now cap counter.0 tickets.now) }
 {
-    let mut i = 0;
-    while i < ranges {
-        let ticket = tickets[i];
-        let version = ticket.version;
-        if version.0 > counter.0 {
+    for (i, ticket) in tickets.iter().enumerate() {
+        if ticket.version.0 > counter.0 || !rest_ok(keys, rows, cap, *ticket) {
             return false;
         }
-        if !rest_ok(keys, rows, cap, ticket) {
+        if i > 0 && ticket.version.0 <= tickets[i - 1].version.0 {
             return false;
-        }
-        i += 1;
-        if i < ranges {
-            let next = tickets[i];
-            let later = next.version;
-            if later.0 <= version.0 {
-                return false;
-            }
         }
     }
     true
@@ -192,11 +157,11 @@ fn ring_node(rows: &[u32], cap: u32, i: u32) -> u32
     requires { Ringed rows.now cap × (i < ring_count rows.now cap) }
     ensures { (result ≡ get_or (ring_of rows.now cap) i 0) × (result < cap) }
 {
-    let at = cell(rows, cap, RING) + i;
+    let at = cell(rows, cap, Column::Ring) + i;
     if at < cap {
-        return cell(rows, at, RING);
+        return cell(rows, at, Column::Ring);
     }
-    cell(rows, at - cap, RING)
+    cell(rows, at - cap, Column::Ring)
 }
 
 // Whether the nodes of the ring from `start` on, so many, were removed before the version.
@@ -204,39 +169,28 @@ fn gone_ok(rows: &[u32], cap: u32, start: u32, size: u32, version: Version) -> b
     requires { Ringed rows.now cap × (start + size ≤ ring_count rows.now cap) }
     ensures { Says result (All (λ n. removals rows.now n < version.0) (take size (drop start (ring_of rows.now cap)))) }
 {
-    let mut i: u32 = 0;
-    while i < size {
-        let n = ring_node(rows, cap, start + i);
-        let gone = removed(rows, n);
-        if version.0 <= gone.0 {
+    for i in start..start + size {
+        if version.0 <= removed(rows, ring_node(rows, cap, i)).0 {
             return false;
         }
-        i += 1;
     }
     true
 }
 
 // Whether the nodes due and the lists of the open tickets, laid end to end, are the ring, and each node was removed before the version of the ticket whose list comes next.
-fn lists_ok(rows: &[u32], cap: u32, tickets: [Ticket; 16], ranges: usize, due: u32) -> bool
-    requires { Ringed rows.now cap × (ranges ≤ 16) }
-    ensures { Says result (Listed (removals rows.now) (ring_of rows.now cap) due (take ranges tickets)) }
+fn lists_ok(rows: &[u32], cap: u32, tickets: &[Ticket], due: u32) -> bool
+    requires { Ringed rows.now cap }
+    ensures { Says result (Listed (removals rows.now) (ring_of rows.now cap) due tickets.now) }
 {
-    let count = cell(rows, cap + 1, RING);
+    let count = cell(rows, cap + 1, Column::Ring);
     let mut start: u32 = 0;
     let mut size = due;
-    let mut i = 0;
-    while i < ranges {
-        if size > count - start {
-            return false;
-        }
-        let ticket = tickets[i];
-        let version = ticket.version;
-        if !gone_ok(rows, cap, start, size, version) {
+    for ticket in tickets {
+        if size > count - start || !gone_ok(rows, cap, start, size, ticket.version) {
             return false;
         }
         start += size;
         size = ticket.held;
-        i += 1;
     }
     size == count - start
 }
@@ -247,10 +201,10 @@ pub fn sound(
     values: &[i64],
     rows: &[u32],
     buckets: &[u32],
-    tickets: [Ticket; 16],
+    tickets: &[Ticket; 16],
     coordinator: Coordinator,
 ) -> bool
-    ensures { Says result (Sound (lent keys.now values.now rows.now buckets.now tickets coordinator)) }
+    ensures { Says result (Sound (lent keys.now values.now rows.now buckets.now tickets.now coordinator)) }
 {
     if !lengths_ok(keys.len(), values.len(), rows.len(), buckets.len()) {
         return false;
@@ -259,35 +213,18 @@ pub fn sound(
     if !levels::levels_ok(rows, cap, tables::levels_of(cap)) {
         return false;
     }
-    if !places::places_ok(rows, cap) {
-        return false;
-    }
-    if !places::counted_ok(rows, cap) {
+    if !places::places_ok(rows, cap) || !places::counted_ok(rows, cap) {
         return false;
     }
     if !buckets::buckets_ok(keys, rows, buckets, cap) {
         return false;
     }
-    let counter = coordinator.counter;
-    if !nodes_ok(keys, rows, cap, counter) {
+    if !nodes_ok(keys, rows, cap, coordinator.counter) || coordinator.ranges > TICKETS {
         return false;
     }
-    if coordinator.ranges > TICKETS {
-        return false;
-    }
-    let ranges = wide(coordinator.ranges);
-    if !tickets_ok(keys, rows, cap, tickets, ranges, counter) {
-        return false;
-    }
-    lists_ok(rows, cap, tickets, ranges, coordinator.due)
-}
-
-// The answer of set-up, and the tickets and the coordinator afterwards.
-#[derive(Clone, Copy)]
-pub struct Prepared {
-    pub answer: SetUp,
-    pub tickets: [Ticket; 16],
-    pub coordinator: Coordinator,
+    let opened = &tickets[..coordinator.ranges as usize];
+    tickets_ok(keys, rows, cap, opened, coordinator.counter)
+        && lists_ok(rows, cap, opened, coordinator.due)
 }
 
 // Makes the tables those of an empty map with no open range, every node free. Keys and values stay.
@@ -296,37 +233,25 @@ pub fn set_up(
     values: &[i64],
     rows: &mut [u32],
     buckets: &mut [u32],
-    tickets: [Ticket; 16],
-    coordinator: Coordinator,
+    tickets: &mut [Ticket; 16],
+    coordinator: &mut Coordinator,
     capacity: u32,
     start: Version,
-) -> Prepared
-    ensures { SetUpBy (lent keys.now values.now rows.old buckets.old tickets coordinator) (lent keys.now values.now rows.new buckets.new result.tickets result.coordinator) capacity start result.answer }
+) -> Result<(), Refusal>
+    ensures { SetUpBy (lent keys.now values.now rows.old buckets.old tickets.old coordinator.old) (lent keys.now values.now rows.new buckets.new tickets.new coordinator.new) capacity start result }
 {
-    let Sized::Of(size) = size_of(capacity) else {
-        return Prepared {
-            answer: SetUp::Refused(2),
-            tickets,
-            coordinator,
-        };
-    };
+    let size = size_of(capacity).ok_or(Refusal::NoSuchCapacity)?;
     if !parts_ok(size, keys.len(), values.len(), rows.len(), buckets.len()) {
-        return Prepared {
-            answer: SetUp::Refused(1),
-            tickets,
-            coordinator,
-        };
+        return Err(Refusal::NotSound);
     }
     places::clear_places(rows, capacity);
     levels::clear_levels(rows, capacity, size.levels);
     buckets::clear(buckets, capacity);
-    Prepared {
-        answer: SetUp::Done,
-        tickets: [tables::no_ticket(); 16],
-        coordinator: Coordinator {
-            counter: start,
-            ranges: 0,
-            due: 0,
-        },
-    }
+    tickets.fill(tables::no_ticket());
+    *coordinator = Coordinator {
+        counter: start,
+        ranges: 0,
+        due: 0,
+    };
+    Ok(())
 }

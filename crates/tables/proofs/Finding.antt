@@ -1,5 +1,6 @@
 -- What the hash table finds is what the view's order has.
 -- Assumes nothing.
+use Rattle.std.specs.Prelude.{Some, None}
 use mathlib.Core.Path.{◌≡◌, refl, sym, ap, ap₂, ◌∙◌, subst}
 use mathlib.Core.Logic.{◌≢◌, inl, inr, ⊎_elim}
 use mathlib.Core.Bool.{Bool, true, false, cond, ◌&&◌, true≢false}
@@ -24,7 +25,6 @@ use Rattle.sizes.specs.Rank.{rank_of, key_of}
 use Rattle.sizes.proofs.Ranking.{key_rank, keys_leb, keys_ltb}
 use Rattle.rows.specs.Rows.{places, removals}
 use Rattle.levels.specs.Levels.{order_of}
-use Rattle.buckets.specs.declared.Found.TheVariants.{At, Nothing}
 use Rattle.buckets.specs.Finding.{found, Holds}
 use Rattle.buckets.proofs.Finding.{finds}
 use Rattle.places.proofs.Covering.{covered}
@@ -135,14 +135,14 @@ module _ (t : Tables) (S : Sound t) (k : ℤ) (f : SFits w64 k) where
       below a b e h = true≢false (sym h ∙ (keys_ltb a b ∙ rw e (le-ltb b b (omega arith))))
 
   -- LAW: a node that the buckets find is the node of the key in the order
-  pub found_node : (n : ℕ) → found t.keys t.rows t.buckets cap (rank_of k) ≡ At n
+  pub found_node : (n : ℕ) → found t.keys t.rows t.buckets cap (rank_of k) ≡ Some n
       → Holds t.keys t.rows cap (rank_of k) n × In n o × (first (filter (M.holds k) (map g o)) ≡ some (g n))
   found_node n e =
       let h : Holds t.keys t.rows cap (rank_of k) n = finds t.keys t.rows t.buckets cap S.hashed (rank_of k) (sym e) in
       (h, linked n h, first_only g (M.holds k) n o (linked n h) (holding n h) (λ m i u. apart m n i (linked n h) u (holding n h)))
 
   -- LAW: where the buckets find nothing, no node of the order holds the key, and the plain map lacks it
-  pub found_none : found t.keys t.rows t.buckets cap (rank_of k) ≡ Nothing → filter (M.holds k) (map g o) ≡ []
+  pub found_none : found t.keys t.rows t.buckets cap (rank_of k) ≡ None → filter (M.holds k) (map g o) ≡ []
   found_none e =
       let h : (n : ℕ) → Holds t.keys t.rows cap (rank_of k) n → ⊥ = finds t.keys t.rows t.buckets cap S.hashed (rank_of k) (sym e) in
       filter_none (M.holds k) (map g o)
@@ -153,10 +153,10 @@ module _ (t : Tables) (S : Sound t) (k : ℤ) (f : SFits w64 k) where
       go n l true q no' = absurd (no' (holds_both n q))
       go n l false q no' = refl
 
-  pub found_get : (n : ℕ) → found t.keys t.rows t.buckets cap (rank_of k) ≡ At n → get k (M.plain (view t)) ≡ some (M.pair_of (g n))
+  pub found_get : (n : ℕ) → found t.keys t.rows t.buckets cap (rank_of k) ≡ Some n → get k (M.plain (view t)) ≡ some (M.pair_of (g n))
   unfolding view
   found_get n e = rw (get_shown k (map g o), (found_node n e).2)
 
-  pub lost_get : found t.keys t.rows t.buckets cap (rank_of k) ≡ Nothing → get k (M.plain (view t)) ≡ none
+  pub lost_get : found t.keys t.rows t.buckets cap (rank_of k) ≡ None → get k (M.plain (view t)) ≡ none
   unfolding view
   lost_get e = rw (get_shown k (map g o), found_none e)

@@ -1,11 +1,11 @@
 -- The lent tables, when they are sound, and what they say as a state of the model.
 -- Assumes nothing.
+use Rattle.std.specs.Prelude.{Some, None, Option}
+use Rattle.sizes.specs.declared.Size.{Size}
 use Rattle.std.specs.Prelude.{◌≡◌, ◌⊎◌, cond, List, map, ℕ, ◌+◌, ◌*◌, ◌<◌, ◌≤◌, length, get_or, take, ltb, eqb, ℤ, pos}
 use Rattle.lists.specs.Holds.{All}
 use Rattle.sizes.specs.declared.Version.{Version}
 use Rattle.sizes.specs.declared.Node.{Node}
-use Rattle.sizes.specs.declared.Sized.{Sized}
-use Rattle.sizes.specs.declared.Sized.TheVariants.{Of, Nothing}
 use Rattle.sizes.specs.Sizes.{size_of}
 use Rattle.sizes.specs.Rank.{key_of}
 use Rattle.rows.specs.Rows.{heights, insertions, removals, places}
@@ -42,13 +42,13 @@ node n = record { 0 = n }
 abbrev pub no_ticket : Ticket
 no_ticket = record { version = version 0; low = 0; high = 0; rest = node 0; held = 0 }
 
-abbrev pub levels_in : Sized → ℕ
-levels_in (Of s) = s.levels
-levels_in Nothing = 0
+abbrev pub levels_in : Option Size → ℕ
+levels_in (Some s) = s.levels
+levels_in None = 0
 
-abbrev pub buckets_in : Sized → ℕ
-buckets_in (Of s) = s.buckets
-buckets_in Nothing = 0
+abbrev pub buckets_in : Option Size → ℕ
+buckets_in (Some s) = s.buckets
+buckets_in None = 0
 
 -- the levels and the buckets of a capacity; 0 where the table has no such capacity
 unfoldable pub levels_of : ℕ → ℕ

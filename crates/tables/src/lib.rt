@@ -5,11 +5,12 @@ ghost use Rattle.std.specs.Prelude.{◌≡◌, ◌+◌, ◌*◌, ◌≤◌, leng
 ghost use Rattle.rows.specs.Rows.{insertions, removals};
 ghost use Rattle.tables.specs.Tables.{levels_of, no_ticket, version};
 
+use rows::Column;
 use sizes::{Node, Version};
 
 // An open range: its version, its bounds as ranks, the node that it rests on or the tail, and how many nodes are on its list.
 #[repr(C)]
-#[derive(Clone, Copy)]
+#[derive(Clone, Copy, Debug, PartialEq, Eq)]
 pub struct Ticket {
     pub version: Version,
     pub low: u64,
@@ -20,7 +21,7 @@ pub struct Ticket {
 
 // The version counter, how many ranges are open, and how many nodes are due.
 #[repr(C)]
-#[derive(Clone, Copy)]
+#[derive(Clone, Copy, Debug, PartialEq, Eq)]
 pub struct Coordinator {
     pub counter: Version,
     pub ranges: u32,
@@ -61,7 +62,7 @@ pub fn inserted(rows: &[u32], n: u32) -> Version
     requires { n * 32 + 32 ≤ length rows.now }
     ensures { result ≡ version (insertions rows.now n) }
 {
-    Version(rows::cell(rows, n, rows::INSERTED))
+    Version(rows::cell(rows, n, Column::Inserted))
 }
 
 // The removal version of the node n.
@@ -69,5 +70,5 @@ pub fn removed(rows: &[u32], n: u32) -> Version
     requires { n * 32 + 32 ≤ length rows.now }
     ensures { result ≡ version (removals rows.now n) }
 {
-    Version(rows::cell(rows, n, rows::REMOVED))
+    Version(rows::cell(rows, n, Column::Removed))
 }

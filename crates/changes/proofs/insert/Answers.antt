@@ -1,9 +1,9 @@
 -- `changes::insert` meets its contract: one law for each return.
+use Rattle.std.specs.Prelude.{Ok}
 use mathlib.Core.Path.{refl, sym, ap, ◌∙◌}
 use native.Mathlib.Omega.{arith}
 use mir.Syntax.{w64}
 use mir.ValLaws.{to_z-of_z}
-use Rattle.model.specs.declared.Inserted.{Inserted}
 use Rattle.tables.specs.Tables.{node}
 use Rattle.changes.proofs.Cases.{insert_few, insert_sized, insert_linkable, insert_at, spare_is, insert_present, insert_full, insert_takes, rank_is, find_is}
 use Rattle.changes.proofs.insert.Goals as goal
@@ -54,7 +54,7 @@ returns c =
     let at = c.wide-at.ensures in
     let n = l.node_is in
     record {
-      answer = ap (λ i. Inserted.At (node i)) n ∙ sym (insert_takes _ _ _ a.key e some);
+      answer = ap (λ i. Ok (node i)) n ∙ sym (insert_takes _ _ _ a.key e some);
       to_keys = rw (at, r);
       to_values = rw (at, to_z-of_z w64 a.value c.ranges.value);
       to_rows = rw (l.to_rows, c.height_of-height.ensures, c.levels_of-levels.ensures, r);

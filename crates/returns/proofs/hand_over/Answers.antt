@@ -1,19 +1,20 @@
 -- `returns::hand_over` meets its contract: one law for each return.
+use Rattle.model.specs.declared.Refusal.TheVariants.{NodeNotPending}
 use mathlib.Core.Path.{refl, sym, ◌∙◌}
 use native.Mathlib.Omega.{arith}
-use Rattle.model.specs.declared.Handed.TheVariants.{Refused, Freed, Held}
+use Rattle.model.specs.declared.Handed.TheVariants.{Err, Freed, Held}
 use Rattle.returns.proofs.HandCases.{handed, case_far, case_other, case_none, case_new, case_old}
 use Rattle.returns.proofs.hand_over.Goals as goal
 
 pub returns-then-n-cap : goal.returns-then-n-cap
 returns-then-n-cap c =
     let a = c.args in
-    handed a.rows.now a.cap a.tickets a.ranges a.node.0 (Refused 12) (case_far _ _ _ _ _ c.if-n-cap.true) refl refl
+    handed a.rows.now a.cap a.tickets a.ranges a.node.0 (Err NodeNotPending) (case_far _ _ _ _ _ c.if-n-cap.true) refl refl
 
 pub returns-then-cell-ne-IS_PENDING : goal.returns-then-cell-ne-IS_PENDING
 returns-then-cell-ne-IS_PENDING c =
     let a = c.args in
-    handed a.rows.now a.cap a.tickets a.ranges a.node.0 (Refused 12) (case_other _ _ _ _ _ c.if-n-cap.false (λ e. c.if-cell-ne-IS_PENDING.true (c.cell.ensures ∙ e))) refl refl
+    handed a.rows.now a.cap a.tickets a.ranges a.node.0 (Err NodeNotPending) (case_other _ _ _ _ _ c.if-n-cap.false (λ e. c.if-cell-ne-IS_PENDING.true (c.cell.ensures ∙ e))) refl refl
 
 pub free_node-requires : goal.free_node-requires
 free_node-requires c = c.requires.freeable _ c.if-n-cap.false (sym c.cell.ensures ∙ c.if-cell-ne-IS_PENDING.false)
