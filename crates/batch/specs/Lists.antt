@@ -1,10 +1,10 @@
 -- A list of calls as schedule bytes: which of its calls are made, what they leave, and why the list ended.
 -- Assumes nothing.
-use Rattle.std.specs.Prelude.{◌≡◌, Bool, true, false, List, [], ◌∷◌, ◌++◌, map, ℕ, ◌+◌, ◌*◌, ◌<◌, ◌≤◌, length, drop, ℤ}
+use Rattle.std.specs.Prelude.{◌≡◌, Bool, true, false, List, [], ◌∷◌, ◌++◌, map, ℕ, ◌+◌, ◌*◌, ◌<◌, ◌≤◌, length, drop, ℤ, Result, Ok, Err}
 use Rattle.lists.specs.Tests.{Says}
 use Rattle.lists.specs.Buffers.{written}
 use Rattle.transactions.specs.declared.Call.{Call}
-use Rattle.transactions.specs.declared.Reading.{Reading}
+use Rattle.transactions.specs.declared.Halt.{Halt}
 use Rattle.transactions.specs.Sequences.{bytes_of}
 use Rattle.transactions.specs.Calls.{numbers_of}
 use Rattle.transactions.specs.Readings.{CallRead}
@@ -12,13 +12,11 @@ use Rattle.model.specs.Plain.{Pair}
 use Rattle.model.specs.Calls as C
 use Rattle.model.specs.Model as M
 use Rattle.tables.specs.Tables.{Tables, Sound, Met, view}
-use Rattle.soundness.specs.Tested.{lent}
 use Rattle.calls.specs.Histories.{Calls}
 use Rattle.batch.specs.declared.Batch.{Batch}
 use Rattle.batch.specs.declared.End.{End}
 use Rattle.batch.specs.declared.End.TheVariants.{Ended, Stop, More, Full, Refused}
-use Rattle.batch.specs.declared.Then.{Then}
-use Rattle.batch.specs.declared.Then.TheVariants.{Make, Over}
+use Rattle.model.specs.declared.Refusal.TheVariants.{NotSound}
 use Rattle.batch.specs.Cells.{cells_of}
 use Rattle.batch.specs.Turns.{room, meant, turn_tables, answer_of, pairs_of, keys_in, values_in}
 
@@ -54,14 +52,14 @@ abbrev pub input_of : Tables → List ℕ → Bool → List ℤ → List ℤ →
 input_of tables bytes more answers keys values =
     record { tables = tables; bytes = bytes; more = more; answers = answers; keys = keys; values = values }
 
-abbrev pub output_of : List ℕ → List ℤ → List ℕ → List ℕ → List ℤ → List ℤ → List ℤ → Batch → Output
-output_of keys values rows buckets answers out_keys out_values r =
+abbrev pub output_of : Tables → List ℤ → List ℤ → List ℤ → Batch → Output
+output_of tables answers out_keys out_values r =
     record {
       end = r.end;
       used = r.used;
       calls = r.calls;
       pairs = r.pairs;
-      tables = lent keys values rows buckets r.tickets r.coordinator;
+      tables = tables;
       answers = answers;
       keys = out_keys;
       values = out_values;
@@ -105,18 +103,23 @@ pub record Goes (bytes : List ℕ) (answers keys values used calls pairs : ℕ) 
   pub left : used < length bytes
   pub has_room : Room answers keys values calls pairs
 
+-- where reading goes no further, why a list ends
+abbrev pub ended_by : Halt → End
+ended_by (Halt.Stop place) = Stop place
+ended_by Halt.More = More
+
 -- what comes next: the call that is read; or the end, where no byte is left, the bytes stop making sense, more bytes are needed to tell, or there is no room
-abbrev pub Comes : List ℕ → Bool → ℕ → ℕ → ℕ → ℕ → ℕ → ℕ → Then → Type 0
-Comes bytes more answers keys values used calls pairs (Make c len) =
-    Goes bytes answers keys values used calls pairs × CallRead (drop used bytes) used more (Reading.Call c len)
-Comes bytes more answers keys values used calls pairs (Over Ended) = length bytes ≤ used
-Comes bytes more answers keys values used calls pairs (Over (Stop place)) =
-    Goes bytes answers keys values used calls pairs × CallRead (drop used bytes) used more (Reading.Stop place)
-Comes bytes more answers keys values used calls pairs (Over More) =
-    Goes bytes answers keys values used calls pairs × CallRead (drop used bytes) used more Reading.More
-Comes bytes more answers keys values used calls pairs (Over Full) =
+abbrev pub Comes : List ℕ → Bool → ℕ → ℕ → ℕ → ℕ → ℕ → ℕ → Result (Call × ℕ) End → Type 0
+Comes bytes more answers keys values used calls pairs (Ok next) =
+    Goes bytes answers keys values used calls pairs × CallRead (drop used bytes) used more (Ok next)
+Comes bytes more answers keys values used calls pairs (Err Ended) = length bytes ≤ used
+Comes bytes more answers keys values used calls pairs (Err (Stop place)) =
+    Goes bytes answers keys values used calls pairs × CallRead (drop used bytes) used more (Err (Halt.Stop place))
+Comes bytes more answers keys values used calls pairs (Err More) =
+    Goes bytes answers keys values used calls pairs × CallRead (drop used bytes) used more (Err Halt.More)
+Comes bytes more answers keys values used calls pairs (Err Full) =
     (used < length bytes) × (Room answers keys values calls pairs → ⊥)
-Comes bytes more answers keys values used calls pairs (Over (Refused n)) = ⊥
+Comes bytes more answers keys values used calls pairs (Err (Refused n)) = ⊥
 
 -- a call made on t behind so many calls and pairs: a turn, its cells at their place, and its pairs behind the others
 pub record Laid (t t' : Tables) (c : Call) (calls pairs : ℕ) (answers ks vs answers' ks' vs' : List ℤ) (count : ℕ) : Type 0 where
@@ -130,7 +133,7 @@ pub record Laid (t t' : Tables) (c : Call) (calls pairs : ℕ) (answers ks vs an
 
 module _ (i : Input) where
   -- what comes behind these calls
-  abbrev pub Follows : List Call → Then → Type 0
+  abbrev pub Follows : List Call → Result (Call × ℕ) End → Type 0
   Follows cs next =
       Comes i.bytes i.more (length i.answers) (length i.keys) (length i.values) (length (bytes_in cs)) (length cs)
       (length (pairs_in (made_on i.tables cs)))
@@ -139,7 +142,7 @@ module _ (i : Input) where
   -- each of these calls comes behind those before it
   abbrev pub Made : List Call → List Call → Type 0
   Made before [] = Unit {0}
-  Made before (c ∷ cs) = Follows before (Make c (length (bytes_of (numbers_of c)))) × Made (before ++ (c ∷ [])) cs
+  Made before (c ∷ cs) = Follows before (Ok (c, length (bytes_of (numbers_of c)))) × Made (before ++ (c ∷ [])) cs
 
   -- what these calls leave
   unfoldable pub leaves : List Call → End → Output
@@ -159,7 +162,7 @@ module _ (i : Input) where
   abbrev pub untouched : Output
   untouched =
       record {
-        end = Refused 1;
+        end = Refused NotSound;
         used = 0;
         calls = 0;
         pairs = 0;
@@ -173,7 +176,7 @@ module _ (i : Input) where
   pub record Listed (o : Output) : Type 0 where
     pub made : List Call
     pub in_turn : Made [] made
-    pub ends : Follows made (Over o.end)
+    pub ends : Follows made (Err o.end)
     pub is : o ≡ leaves made o.end
     pub met : Calls i.tables (made_on i.tables made) o.tables
 

@@ -13,11 +13,8 @@ use Rattle.model.specs.Calls as C
 use Rattle.model.specs.Model as M
 use Rattle.tables.specs.Tables.{Tables, Met, view}
 use Rattle.model.specs.Answers.{of_handed, of_ranged, of_opened, of_stepped, of_closed, of_swept}
-use Rattle.model.specs.declared.Handed.{Handed}
 use Rattle.returns.specs.HandOver.{handing_of, handed_tables, handed_rows, handed_tickets}
 use Rattle.returns.specs.Sweep.{sweeping, swept_rows, swept_due, with_due, swept_tables}
-use Rattle.ranges.specs.declared.Open as O
-use Rattle.ranges.specs.declared.Close as S
 use Rattle.changes.specs.Insert.{insert_tables}
 use Rattle.changes.specs.Remove.{remove_tables}
 use Rattle.ranges.specs.Fast.{RangedBy}
@@ -26,12 +23,7 @@ use Rattle.ranges.specs.Step.{stepping, step_end, step_nodes, stepped_tables}
 use Rattle.ranges.specs.Walk.{keys_of, values_of}
 use Rattle.ranges.specs.Close.{closed_tables}
 use Rattle.tables.specs.declared.Ticket.{Ticket}
-use Rattle.tables.specs.declared.Coordinator.{Coordinator}
-use Rattle.batch.specs.declared.Quiet as Q
-use Rattle.batch.specs.declared.Ticketed as T
-use Rattle.batch.specs.declared.Kind.{Kind}
 use Rattle.batch.specs.declared.Reply.{Reply}
-use Rattle.batch.specs.declared.Turn.{Turn}
 use Rattle.batch.specs.Cells.{cells_of, ranged_count, stepped_count}
 
 -- each call has this many places of both pair buffers
@@ -111,58 +103,11 @@ pub record Turned (t t' : Tables) (call : Call) (ks vs ks' vs' cells : List ℤ)
   pub keys_out : ks' ≡ written ks 0 (keys_in (pairs_of t call))
   pub values_out : vs' ≡ written vs 0 (values_in (pairs_of t call))
 
--- ---- a call by its kind
-
--- the call that a quiet one is, a ticketed one is
-abbrev pub quiet_call : Q.Quiet → Call
-quiet_call (Q.Quiet.Lookup k) = Lookup k
-quiet_call (Q.Quiet.Insert k v coin) = Insert k v coin
-quiet_call (Q.Quiet.Remove k) = Remove k
-quiet_call (Q.Quiet.Ceil k) = Ceil k
-quiet_call (Q.Quiet.Floor k) = Floor k
-quiet_call (Q.Quiet.Succ k) = Succ k
-quiet_call (Q.Quiet.Pred k) = Pred k
-quiet_call (Q.Quiet.Fast l r) = Fast l r
-quiet_call Q.Quiet.Tally = Tally
-
-abbrev pub ticketed_call : T.Ticketed → Call
-ticketed_call (T.Ticketed.HandOver n) = HandOver n
-ticketed_call (T.Ticketed.Open l r) = Open l r
-ticketed_call (T.Ticketed.Step v n) = Step v n
-ticketed_call (T.Ticketed.Close v) = Close v
-ticketed_call T.Ticketed.Sweep = Sweep
-
--- the call of a kind
-abbrev pub call_of : Kind → Call
-call_of (Kind.Quiet q) = quiet_call q
-call_of (Kind.Ticketed t) = ticketed_call t
-
--- ---- the calls that hold tickets, a coordinator or pairs, each as a turn
+-- ---- the calls that hand out pairs, each as a reply
 
 -- a reply of these parts
 abbrev pub reply_of : List ℤ → ℕ → Reply
 reply_of cells pairs = record { cells = cells; pairs = pairs }
-
--- a turn of these parts
-abbrev pub turn_of : List ℤ → ℕ → List Ticket → Coordinator → Turn
-turn_of cells pairs tickets coordinator = record { cells = cells; pairs = pairs; tickets = tickets; coordinator = coordinator }
-
--- a node handed over: h is the answer
-pub record HandTurn (h : Handed) (rows rows' : List ℕ) (cap : ℕ) (ts : List Ticket) (c : Coordinator) (n : ℕ) (r : Turn) : Type 0 where
-  pub cells : rows' ≡ handed_rows h rows cap n
-  pub is : r ≡ turn_of (cells_of 3 (of_handed h)) 0 (handed_tickets h ts c.ranges) c
-
--- a sweep
-pub record SweepTurn (rows rows' : List ℕ) (cap : ℕ) (ts : List Ticket) (c : Coordinator) (r : Turn) : Type 0 where
-  pub cells : rows' ≡ swept_rows c.due rows cap
-  pub is : r ≡ turn_of (cells_of 12 (of_swept (sweeping c.due))) 0 ts (with_due c (swept_due c.due))
-
--- a range opened, a range closed
-abbrev pub open_turn : O.Open → Turn
-open_turn r = turn_of (cells_of 9 (of_opened r.answer)) 0 r.tickets r.coordinator
-
-abbrev pub close_turn : S.Close → Turn
-close_turn r = turn_of (cells_of 11 (of_closed r.answer)) 0 r.tickets r.coordinator
 
 -- a fast range
 pub record FastReply (keys : List ℕ) (values : List ℤ) (rows : List ℕ) (counter : ℕ) (low high : ℤ) (ks vs ks' vs' : List ℤ) (r : Reply) : Type 0 where
@@ -170,13 +115,12 @@ pub record FastReply (keys : List ℕ) (values : List ℤ) (rows : List ℕ) (co
   pub by : RangedBy keys values rows counter low high ks vs ks' vs' answer
   pub is : r ≡ reply_of (cells_of 8 (of_ranged [] [] answer)) (ranged_count answer)
 
--- a step with so many places, at the front of both buffers
-pub record StepTurn (keys : List ℕ) (values : List ℤ) (rows : List ℕ) (ts : List Ticket) (c : Coordinator) (v places : ℕ) (ks vs ks' vs' : List ℤ) (r : Turn) : Type 0 where
+-- a step with so many places, at the front of both buffers: k ranges are open
+pub record StepReply (keys : List ℕ) (values : List ℤ) (rows : List ℕ) (ts ts' : List Ticket) (k v places : ℕ) (ks vs ks' vs' : List ℤ) (r : Reply) : Type 0 where
   pub is :
       r
-      ≡ turn_of (cells_of 10 (of_stepped [] [] (step_end (stepping ts c.ranges v places) keys rows ts places).answer))
-      (stepped_count (step_end (stepping ts c.ranges v places) keys rows ts places).answer)
-      (step_end (stepping ts c.ranges v places) keys rows ts places).tickets
-      c
-  pub keys_out : ks' ≡ written ks 0 (keys_of keys (step_nodes (stepping ts c.ranges v places) keys rows ts places))
-  pub values_out : vs' ≡ written vs 0 (values_of values (step_nodes (stepping ts c.ranges v places) keys rows ts places))
+      ≡ reply_of (cells_of 10 (of_stepped [] [] (step_end (stepping ts k v places) keys rows ts places).answer))
+      (stepped_count (step_end (stepping ts k v places) keys rows ts places).answer)
+  pub tickets : ts' ≡ (step_end (stepping ts k v places) keys rows ts places).tickets
+  pub keys_out : ks' ≡ written ks 0 (keys_of keys (step_nodes (stepping ts k v places) keys rows ts places))
+  pub values_out : vs' ≡ written vs 0 (values_of values (step_nodes (stepping ts k v places) keys rows ts places))

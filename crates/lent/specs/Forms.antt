@@ -17,7 +17,7 @@ use Rattle.soundness.specs.SetUp.{SetUpBy}
 use Rattle.calls.specs.Entries as E
 use Rattle.batch.specs.declared.End.{End}
 use Rattle.batch.specs.Lists.{Input, Output, Ran, input_of}
-use Rattle.lent.specs.declared.Run.{Run}
+use Rattle.batch.specs.declared.Batch.{Batch}
 use Rattle.lent.specs.Lends.{Lends}
 
 -- set-up refuses a capacity that is not in the table first
@@ -93,7 +93,7 @@ abbrev pub input_from : Rooms → List ℕ → Bool → Input
 input_from x bytes more = input_of x.tables bytes more x.answers x.keys_out x.values_out
 
 -- the batch's output
-abbrev pub output_from : Rooms → Run → Output
+abbrev pub output_from : Rooms → Batch → Output
 output_from x r =
     record {
       end = r.end;
@@ -107,9 +107,9 @@ output_from x r =
     }
 
 -- nothing was run
-abbrev pub not_run : Run
+abbrev pub not_run : Batch
 not_run = record { end = End.Refused NotSound; used = 0; calls = 0; pairs = 0 }
 
 -- a list of calls as schedule bytes, with whether more may follow
-abbrev pub Runs : ℕ → List ℕ → Bool → Rooms → Rooms → Run → Type 0
+abbrev pub Runs : ℕ → List ℕ → Bool → Rooms → Rooms → Batch → Type 0
 Runs n bytes more = Lends n (λ x y a. Ran (input_from x bytes more) (output_from y a)) not_run

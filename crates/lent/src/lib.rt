@@ -1,65 +1,16 @@
-// The calls over lent tickets and a lent coordinator: each takes the sixteen tickets and the coordinator by value, makes the call, and puts both back.
+// The calls over a lent run of tickets and a lent coordinator: each makes the call where there are sixteen tickets.
 // A run of any other number of tickets is refused, and nothing changes.
 #![tactic(auto)]
 
 ghost use Rattle.std.specs.Prelude.{◌≡◌, true, false, length};
-ghost use Rattle.sizes.specs.Sizes.{size_of};
 ghost use Rattle.soundness.specs.Tested.{lent};
 ghost use Rattle.calls.specs.Entries.{with};
-ghost use Rattle.lent.specs.Forms.{SetsUp, Looks, Nears, Tallies, Inserts, Removes, HandsOver, Sweeps, Opens, Closes, Steps, Ranges, Runs, rooms, refusal_of};
+ghost use Rattle.lent.specs.Forms.{SetsUp, Looks, Nears, Tallies, Inserts, Removes, HandsOver, Sweeps, Opens, Closes, Steps, Ranges, Runs, rooms};
 
-use batch::End;
-use model::{
-    Closed, Found, Handed, Inserted, Nearest, Opened, Ranged, Removed, SetUp, Stepped, Swept,
-    Tallied,
-};
-use sizes::{Node, Sized, Version};
+use batch::{Batch, End};
+use model::{Handed, Refusal, Stepped, Swept, Tallied};
+use sizes::{Node, Version, size_of};
 use tables::{Coordinator, Ticket};
-use tickets::{load16, store16};
-
-// The refusal of a set-up where there are not sixteen tickets: a capacity that is not in the table comes first.
-fn unmade(capacity: u32) -> SetUp
-    ensures { result ≡ refusal_of (size_of capacity) }
-{
-    match sizes::size_of(capacity) {
-        Sized::Of(_) => SetUp::Refused(1),
-        Sized::Nothing => SetUp::Refused(2),
-    }
-}
-
-// Set-up: an empty map with no open range, where there are sixteen tickets.
-fn set_up_value(
-    keys: &[u64],
-    values: &[i64],
-    rows: &mut [u32],
-    buckets: &mut [u32],
-    count: usize,
-    tickets: [Ticket; 16],
-    coordinator: Coordinator,
-    capacity: u32,
-    start: Version,
-) -> soundness::Prepared
-    ensures { SetsUp count capacity start (lent keys.now values.now rows.old buckets.old tickets coordinator) (lent keys.now values.now rows.new buckets.new result.tickets result.coordinator) result.answer }
-{
-    if count != 16 {
-        let answer = unmade(capacity);
-        return soundness::Prepared {
-            answer,
-            tickets,
-            coordinator,
-        };
-    }
-    soundness::set_up(
-        keys,
-        values,
-        rows,
-        buckets,
-        tickets,
-        coordinator,
-        capacity,
-        start,
-    )
-}
 
 // Set-up: an empty map with no open range.
 pub fn set_up(
@@ -71,45 +22,23 @@ pub fn set_up(
     coordinator: &mut Coordinator,
     capacity: u32,
     start: Version,
-) -> SetUp
+) -> Result<(), Refusal>
     ensures { SetsUp (length tickets.old) capacity start (lent keys.now values.now rows.old buckets.old tickets.old coordinator.old) (lent keys.now values.now rows.new buckets.new tickets.new coordinator.new) result }
 {
-    let taken = load16(tickets);
-    let count = tickets.len();
-    let made = set_up_value(
+    let Some(sixteen) = tickets.as_mut_array::<16>() else {
+        size_of(capacity).ok_or(Refusal::NoSuchCapacity)?;
+        return Err(Refusal::NotSound);
+    };
+    soundness::set_up(
         keys,
         values,
         rows,
         buckets,
-        count,
-        taken,
-        *coordinator,
+        sixteen,
+        coordinator,
         capacity,
         start,
-    );
-    let given = made.tickets;
-    store16(tickets, given);
-    *coordinator = made.coordinator;
-    made.answer
-}
-
-// Lookup: the value of the key, where there are sixteen tickets.
-fn lookup_value(
-    keys: &[u64],
-    values: &[i64],
-    rows: &[u32],
-    buckets: &[u32],
-    count: usize,
-    tickets: [Ticket; 16],
-    coordinator: Coordinator,
-    key: i64,
-) -> Found
-    ensures { Looks count key (lent keys.now values.now rows.now buckets.now tickets coordinator) (lent keys.now values.now rows.now buckets.now tickets coordinator) result }
-{
-    if count != 16 {
-        return Found::Refused(1);
-    }
-    calls::lookup(keys, values, rows, buckets, tickets, coordinator, key)
+    )
 }
 
 // Lookup: the value of the key.
@@ -118,34 +47,16 @@ pub fn lookup(
     values: &[i64],
     rows: &[u32],
     buckets: &[u32],
-    tickets: &mut [Ticket],
-    coordinator: &mut Coordinator,
+    tickets: &[Ticket],
+    coordinator: &Coordinator,
     key: i64,
-) -> Found
-    ensures { Looks (length tickets.old) key (lent keys.now values.now rows.now buckets.now tickets.old coordinator.old) (lent keys.now values.now rows.now buckets.now tickets.new coordinator.new) result }
+) -> Result<i64, Refusal>
+    ensures { Looks (length tickets.now) key (lent keys.now values.now rows.now buckets.now tickets.now coordinator.now) (lent keys.now values.now rows.now buckets.now tickets.now coordinator.now) result }
 {
-    let taken = load16(tickets);
-    let count = tickets.len();
-    lookup_value(keys, values, rows, buckets, count, taken, *coordinator, key)
-}
-
-// Ceil: the nearest present key at or above, where there are sixteen tickets.
-fn ceil_value(
-    keys: &[u64],
-    values: &[i64],
-    rows: &[u32],
-    buckets: &[u32],
-    count: usize,
-    tickets: [Ticket; 16],
-    coordinator: Coordinator,
-    key: i64,
-) -> Nearest
-    ensures { Nears count key 0 true (lent keys.now values.now rows.now buckets.now tickets coordinator) (lent keys.now values.now rows.now buckets.now tickets coordinator) result }
-{
-    if count != 16 {
-        return Nearest::Refused(1);
-    }
-    calls::ceil(keys, values, rows, buckets, tickets, coordinator, key)
+    let Some(sixteen) = tickets.as_array::<16>() else {
+        return Err(Refusal::NotSound);
+    };
+    calls::lookup(keys, values, rows, buckets, sixteen, *coordinator, key)
 }
 
 // Ceil: the nearest present key at or above.
@@ -154,34 +65,16 @@ pub fn ceil(
     values: &[i64],
     rows: &[u32],
     buckets: &[u32],
-    tickets: &mut [Ticket],
-    coordinator: &mut Coordinator,
+    tickets: &[Ticket],
+    coordinator: &Coordinator,
     key: i64,
-) -> Nearest
-    ensures { Nears (length tickets.old) key 0 true (lent keys.now values.now rows.now buckets.now tickets.old coordinator.old) (lent keys.now values.now rows.now buckets.now tickets.new coordinator.new) result }
+) -> Result<i64, Refusal>
+    ensures { Nears (length tickets.now) key 0 true (lent keys.now values.now rows.now buckets.now tickets.now coordinator.now) (lent keys.now values.now rows.now buckets.now tickets.now coordinator.now) result }
 {
-    let taken = load16(tickets);
-    let count = tickets.len();
-    ceil_value(keys, values, rows, buckets, count, taken, *coordinator, key)
-}
-
-// Floor: the nearest present key at or below, where there are sixteen tickets.
-fn floor_value(
-    keys: &[u64],
-    values: &[i64],
-    rows: &[u32],
-    buckets: &[u32],
-    count: usize,
-    tickets: [Ticket; 16],
-    coordinator: Coordinator,
-    key: i64,
-) -> Nearest
-    ensures { Nears count key 1 true (lent keys.now values.now rows.now buckets.now tickets coordinator) (lent keys.now values.now rows.now buckets.now tickets coordinator) result }
-{
-    if count != 16 {
-        return Nearest::Refused(1);
-    }
-    calls::floor(keys, values, rows, buckets, tickets, coordinator, key)
+    let Some(sixteen) = tickets.as_array::<16>() else {
+        return Err(Refusal::NotSound);
+    };
+    calls::ceil(keys, values, rows, buckets, sixteen, *coordinator, key)
 }
 
 // Floor: the nearest present key at or below.
@@ -190,34 +83,16 @@ pub fn floor(
     values: &[i64],
     rows: &[u32],
     buckets: &[u32],
-    tickets: &mut [Ticket],
-    coordinator: &mut Coordinator,
+    tickets: &[Ticket],
+    coordinator: &Coordinator,
     key: i64,
-) -> Nearest
-    ensures { Nears (length tickets.old) key 1 true (lent keys.now values.now rows.now buckets.now tickets.old coordinator.old) (lent keys.now values.now rows.now buckets.now tickets.new coordinator.new) result }
+) -> Result<i64, Refusal>
+    ensures { Nears (length tickets.now) key 1 true (lent keys.now values.now rows.now buckets.now tickets.now coordinator.now) (lent keys.now values.now rows.now buckets.now tickets.now coordinator.now) result }
 {
-    let taken = load16(tickets);
-    let count = tickets.len();
-    floor_value(keys, values, rows, buckets, count, taken, *coordinator, key)
-}
-
-// Succ: the nearest present key above, where there are sixteen tickets.
-fn succ_value(
-    keys: &[u64],
-    values: &[i64],
-    rows: &[u32],
-    buckets: &[u32],
-    count: usize,
-    tickets: [Ticket; 16],
-    coordinator: Coordinator,
-    key: i64,
-) -> Nearest
-    ensures { Nears count key 0 false (lent keys.now values.now rows.now buckets.now tickets coordinator) (lent keys.now values.now rows.now buckets.now tickets coordinator) result }
-{
-    if count != 16 {
-        return Nearest::Refused(1);
-    }
-    calls::succ(keys, values, rows, buckets, tickets, coordinator, key)
+    let Some(sixteen) = tickets.as_array::<16>() else {
+        return Err(Refusal::NotSound);
+    };
+    calls::floor(keys, values, rows, buckets, sixteen, *coordinator, key)
 }
 
 // Succ: the nearest present key above.
@@ -226,34 +101,16 @@ pub fn succ(
     values: &[i64],
     rows: &[u32],
     buckets: &[u32],
-    tickets: &mut [Ticket],
-    coordinator: &mut Coordinator,
+    tickets: &[Ticket],
+    coordinator: &Coordinator,
     key: i64,
-) -> Nearest
-    ensures { Nears (length tickets.old) key 0 false (lent keys.now values.now rows.now buckets.now tickets.old coordinator.old) (lent keys.now values.now rows.now buckets.now tickets.new coordinator.new) result }
+) -> Result<i64, Refusal>
+    ensures { Nears (length tickets.now) key 0 false (lent keys.now values.now rows.now buckets.now tickets.now coordinator.now) (lent keys.now values.now rows.now buckets.now tickets.now coordinator.now) result }
 {
-    let taken = load16(tickets);
-    let count = tickets.len();
-    succ_value(keys, values, rows, buckets, count, taken, *coordinator, key)
-}
-
-// Pred: the nearest present key below, where there are sixteen tickets.
-fn pred_value(
-    keys: &[u64],
-    values: &[i64],
-    rows: &[u32],
-    buckets: &[u32],
-    count: usize,
-    tickets: [Ticket; 16],
-    coordinator: Coordinator,
-    key: i64,
-) -> Nearest
-    ensures { Nears count key 1 false (lent keys.now values.now rows.now buckets.now tickets coordinator) (lent keys.now values.now rows.now buckets.now tickets coordinator) result }
-{
-    if count != 16 {
-        return Nearest::Refused(1);
-    }
-    calls::pred(keys, values, rows, buckets, tickets, coordinator, key)
+    let Some(sixteen) = tickets.as_array::<16>() else {
+        return Err(Refusal::NotSound);
+    };
+    calls::succ(keys, values, rows, buckets, sixteen, *coordinator, key)
 }
 
 // Pred: the nearest present key below.
@@ -262,33 +119,16 @@ pub fn pred(
     values: &[i64],
     rows: &[u32],
     buckets: &[u32],
-    tickets: &mut [Ticket],
-    coordinator: &mut Coordinator,
+    tickets: &[Ticket],
+    coordinator: &Coordinator,
     key: i64,
-) -> Nearest
-    ensures { Nears (length tickets.old) key 1 false (lent keys.now values.now rows.now buckets.now tickets.old coordinator.old) (lent keys.now values.now rows.now buckets.now tickets.new coordinator.new) result }
+) -> Result<i64, Refusal>
+    ensures { Nears (length tickets.now) key 1 false (lent keys.now values.now rows.now buckets.now tickets.now coordinator.now) (lent keys.now values.now rows.now buckets.now tickets.now coordinator.now) result }
 {
-    let taken = load16(tickets);
-    let count = tickets.len();
-    pred_value(keys, values, rows, buckets, count, taken, *coordinator, key)
-}
-
-// Tally: present nodes, held nodes, free nodes, where there are sixteen tickets.
-fn tally_value(
-    keys: &[u64],
-    values: &[i64],
-    rows: &[u32],
-    buckets: &[u32],
-    count: usize,
-    tickets: [Ticket; 16],
-    coordinator: Coordinator,
-) -> Tallied
-    ensures { Tallies count (lent keys.now values.now rows.now buckets.now tickets coordinator) (lent keys.now values.now rows.now buckets.now tickets coordinator) result }
-{
-    if count != 16 {
-        return Tallied::Refused(1);
-    }
-    calls::tally(keys, values, rows, buckets, tickets, coordinator)
+    let Some(sixteen) = tickets.as_array::<16>() else {
+        return Err(Refusal::NotSound);
+    };
+    calls::pred(keys, values, rows, buckets, sixteen, *coordinator, key)
 }
 
 // Tally: present nodes, held nodes, free nodes.
@@ -297,45 +137,15 @@ pub fn tally(
     values: &[i64],
     rows: &[u32],
     buckets: &[u32],
-    tickets: &mut [Ticket],
-    coordinator: &mut Coordinator,
-) -> Tallied
-    ensures { Tallies (length tickets.old) (lent keys.now values.now rows.now buckets.now tickets.old coordinator.old) (lent keys.now values.now rows.now buckets.now tickets.new coordinator.new) result }
+    tickets: &[Ticket],
+    coordinator: &Coordinator,
+) -> Result<Tallied, Refusal>
+    ensures { Tallies (length tickets.now) (lent keys.now values.now rows.now buckets.now tickets.now coordinator.now) (lent keys.now values.now rows.now buckets.now tickets.now coordinator.now) result }
 {
-    let taken = load16(tickets);
-    let count = tickets.len();
-    tally_value(keys, values, rows, buckets, count, taken, *coordinator)
-}
-
-// Insert: the key with its value; the coin makes its height, where there are sixteen tickets.
-fn insert_value(
-    keys: &mut [u64],
-    values: &mut [i64],
-    rows: &mut [u32],
-    buckets: &mut [u32],
-    count: usize,
-    tickets: [Ticket; 16],
-    coordinator: Coordinator,
-    key: i64,
-    value: i64,
-    coin: u64,
-) -> Inserted
-    ensures { Inserts count key value coin (lent keys.old values.old rows.old buckets.old tickets coordinator) (lent keys.new values.new rows.new buckets.new tickets coordinator) result }
-{
-    if count != 16 {
-        return Inserted::Refused(1);
-    }
-    calls::insert(
-        keys,
-        values,
-        rows,
-        buckets,
-        tickets,
-        coordinator,
-        key,
-        value,
-        coin,
-    )
+    let Some(sixteen) = tickets.as_array::<16>() else {
+        return Err(Refusal::NotSound);
+    };
+    calls::tally(keys, values, rows, buckets, sixteen, *coordinator)
 }
 
 // Insert: the key with its value; the coin makes its height.
@@ -344,47 +154,28 @@ pub fn insert(
     values: &mut [i64],
     rows: &mut [u32],
     buckets: &mut [u32],
-    tickets: &mut [Ticket],
-    coordinator: &mut Coordinator,
+    tickets: &[Ticket],
+    coordinator: &Coordinator,
     key: i64,
     value: i64,
     coin: u64,
-) -> Inserted
-    ensures { Inserts (length tickets.old) key value coin (lent keys.old values.old rows.old buckets.old tickets.old coordinator.old) (lent keys.new values.new rows.new buckets.new tickets.new coordinator.new) result }
+) -> Result<Node, Refusal>
+    ensures { Inserts (length tickets.now) key value coin (lent keys.old values.old rows.old buckets.old tickets.now coordinator.now) (lent keys.new values.new rows.new buckets.new tickets.now coordinator.now) result }
 {
-    let taken = load16(tickets);
-    let count = tickets.len();
-    insert_value(
+    let Some(sixteen) = tickets.as_array::<16>() else {
+        return Err(Refusal::NotSound);
+    };
+    calls::insert(
         keys,
         values,
         rows,
         buckets,
-        count,
-        taken,
+        sixteen,
         *coordinator,
         key,
         value,
         coin,
     )
-}
-
-// Remove: the key's node becomes pending, where there are sixteen tickets.
-fn remove_value(
-    keys: &[u64],
-    values: &[i64],
-    rows: &mut [u32],
-    buckets: &mut [u32],
-    count: usize,
-    tickets: [Ticket; 16],
-    coordinator: Coordinator,
-    key: i64,
-) -> Removed
-    ensures { Removes count key (lent keys.now values.now rows.old buckets.old tickets coordinator) (lent keys.now values.now rows.new buckets.new tickets coordinator) result }
-{
-    if count != 16 {
-        return Removed::Refused(1);
-    }
-    calls::remove(keys, values, rows, buckets, tickets, coordinator, key)
 }
 
 // Remove: the key's node becomes pending.
@@ -393,37 +184,16 @@ pub fn remove(
     values: &[i64],
     rows: &mut [u32],
     buckets: &mut [u32],
-    tickets: &mut [Ticket],
-    coordinator: &mut Coordinator,
+    tickets: &[Ticket],
+    coordinator: &Coordinator,
     key: i64,
-) -> Removed
-    ensures { Removes (length tickets.old) key (lent keys.now values.now rows.old buckets.old tickets.old coordinator.old) (lent keys.now values.now rows.new buckets.new tickets.new coordinator.new) result }
+) -> Result<Node, Refusal>
+    ensures { Removes (length tickets.now) key (lent keys.now values.now rows.old buckets.old tickets.now coordinator.now) (lent keys.now values.now rows.new buckets.new tickets.now coordinator.now) result }
 {
-    let taken = load16(tickets);
-    let count = tickets.len();
-    remove_value(keys, values, rows, buckets, count, taken, *coordinator, key)
-}
-
-// Hand over: a pending node is freed at once, or joins the list of the latest range, where there are sixteen tickets.
-fn hand_over_value(
-    keys: &[u64],
-    values: &[i64],
-    rows: &mut [u32],
-    buckets: &[u32],
-    count: usize,
-    tickets: [Ticket; 16],
-    coordinator: Coordinator,
-    node: Node,
-) -> returns::HandOver
-    ensures { HandsOver count node.0 (lent keys.now values.now rows.old buckets.now tickets coordinator) (lent keys.now values.now rows.new buckets.now result.tickets coordinator) result.answer }
-{
-    if count != 16 {
-        return returns::HandOver {
-            answer: Handed::Refused(1),
-            tickets,
-        };
-    }
-    calls::hand_over(keys, values, rows, buckets, tickets, coordinator, node)
+    let Some(sixteen) = tickets.as_array::<16>() else {
+        return Err(Refusal::NotSound);
+    };
+    calls::remove(keys, values, rows, buckets, sixteen, *coordinator, key)
 }
 
 // Hand over: a pending node is freed at once, or joins the list of the latest range.
@@ -433,47 +203,15 @@ pub fn hand_over(
     rows: &mut [u32],
     buckets: &[u32],
     tickets: &mut [Ticket],
-    coordinator: &mut Coordinator,
+    coordinator: &Coordinator,
     node: Node,
-) -> Handed
-    ensures { HandsOver (length tickets.old) node.0 (lent keys.now values.now rows.old buckets.now tickets.old coordinator.old) (lent keys.now values.now rows.new buckets.now tickets.new coordinator.new) result }
+) -> Result<Handed, Refusal>
+    ensures { HandsOver (length tickets.old) node.0 (lent keys.now values.now rows.old buckets.now tickets.old coordinator.now) (lent keys.now values.now rows.new buckets.now tickets.new coordinator.now) result }
 {
-    let taken = load16(tickets);
-    let count = tickets.len();
-    let made = hand_over_value(
-        keys,
-        values,
-        rows,
-        buckets,
-        count,
-        taken,
-        *coordinator,
-        node,
-    );
-    let given = made.tickets;
-    store16(tickets, given);
-    made.answer
-}
-
-// Sweep: the first due node is freed, where there are sixteen tickets.
-fn sweep_value(
-    keys: &[u64],
-    values: &[i64],
-    rows: &mut [u32],
-    buckets: &[u32],
-    count: usize,
-    tickets: [Ticket; 16],
-    coordinator: Coordinator,
-) -> returns::Sweep
-    ensures { Sweeps count (lent keys.now values.now rows.old buckets.now tickets coordinator) (lent keys.now values.now rows.new buckets.now tickets result.coordinator) result.answer }
-{
-    if count != 16 {
-        return returns::Sweep {
-            answer: Swept::Refused(1),
-            coordinator,
-        };
-    }
-    calls::sweep(keys, values, rows, buckets, tickets, coordinator)
+    let Some(sixteen) = tickets.as_mut_array::<16>() else {
+        return Err(Refusal::NotSound);
+    };
+    calls::hand_over(keys, values, rows, buckets, sixteen, *coordinator, node)
 }
 
 // Sweep: the first due node is freed.
@@ -482,40 +220,15 @@ pub fn sweep(
     values: &[i64],
     rows: &mut [u32],
     buckets: &[u32],
-    tickets: &mut [Ticket],
+    tickets: &[Ticket],
     coordinator: &mut Coordinator,
-) -> Swept
-    ensures { Sweeps (length tickets.old) (lent keys.now values.now rows.old buckets.now tickets.old coordinator.old) (lent keys.now values.now rows.new buckets.now tickets.new coordinator.new) result }
+) -> Result<Swept, Refusal>
+    ensures { Sweeps (length tickets.now) (lent keys.now values.now rows.old buckets.now tickets.now coordinator.old) (lent keys.now values.now rows.new buckets.now tickets.now coordinator.new) result }
 {
-    let taken = load16(tickets);
-    let count = tickets.len();
-    let made = sweep_value(keys, values, rows, buckets, count, taken, *coordinator);
-    *coordinator = made.coordinator;
-    made.answer
-}
-
-// Open: a range with these bounds; the answer is its version, where there are sixteen tickets.
-fn open_range_value(
-    keys: &[u64],
-    values: &[i64],
-    rows: &[u32],
-    buckets: &[u32],
-    count: usize,
-    tickets: [Ticket; 16],
-    coordinator: Coordinator,
-    low: i64,
-    high: i64,
-) -> ranges::Open
-    ensures { Opens count low high (lent keys.now values.now rows.now buckets.now tickets coordinator) (lent keys.now values.now rows.now buckets.now result.tickets result.coordinator) result.answer }
-{
-    if count != 16 {
-        return ranges::Open {
-            answer: Opened::Refused(1),
-            tickets,
-            coordinator,
-        };
-    }
-    calls::open_range(keys, values, rows, buckets, tickets, coordinator, low, high)
+    let Some(sixteen) = tickets.as_array::<16>() else {
+        return Err(Refusal::NotSound);
+    };
+    calls::sweep(keys, values, rows, buckets, sixteen, coordinator)
 }
 
 // Open: a range with these bounds; the answer is its version.
@@ -528,49 +241,13 @@ pub fn open_range(
     coordinator: &mut Coordinator,
     low: i64,
     high: i64,
-) -> Opened
+) -> Result<Version, Refusal>
     ensures { Opens (length tickets.old) low high (lent keys.now values.now rows.now buckets.now tickets.old coordinator.old) (lent keys.now values.now rows.now buckets.now tickets.new coordinator.new) result }
 {
-    let taken = load16(tickets);
-    let count = tickets.len();
-    let made = open_range_value(
-        keys,
-        values,
-        rows,
-        buckets,
-        count,
-        taken,
-        *coordinator,
-        low,
-        high,
-    );
-    let given = made.tickets;
-    store16(tickets, given);
-    *coordinator = made.coordinator;
-    made.answer
-}
-
-// Close: the open range of that version, at any moment, where there are sixteen tickets.
-fn close_range_value(
-    keys: &[u64],
-    values: &[i64],
-    rows: &[u32],
-    buckets: &[u32],
-    count: usize,
-    tickets: [Ticket; 16],
-    coordinator: Coordinator,
-    version: Version,
-) -> ranges::Close
-    ensures { Closes count version.0 (lent keys.now values.now rows.now buckets.now tickets coordinator) (lent keys.now values.now rows.now buckets.now result.tickets result.coordinator) result.answer }
-{
-    if count != 16 {
-        return ranges::Close {
-            answer: Closed::Refused(1),
-            tickets,
-            coordinator,
-        };
-    }
-    calls::close_range(keys, values, rows, buckets, tickets, coordinator, version)
+    let Some(sixteen) = tickets.as_mut_array::<16>() else {
+        return Err(Refusal::NotSound);
+    };
+    calls::open_range(keys, values, rows, buckets, sixteen, coordinator, low, high)
 }
 
 // Close: the open range of that version, at any moment.
@@ -582,59 +259,13 @@ pub fn close_range(
     tickets: &mut [Ticket],
     coordinator: &mut Coordinator,
     version: Version,
-) -> Closed
+) -> Result<u32, Refusal>
     ensures { Closes (length tickets.old) version.0 (lent keys.now values.now rows.now buckets.now tickets.old coordinator.old) (lent keys.now values.now rows.now buckets.now tickets.new coordinator.new) result }
 {
-    let taken = load16(tickets);
-    let count = tickets.len();
-    let made = close_range_value(
-        keys,
-        values,
-        rows,
-        buckets,
-        count,
-        taken,
-        *coordinator,
-        version,
-    );
-    let given = made.tickets;
-    store16(tickets, given);
-    *coordinator = made.coordinator;
-    made.answer
-}
-
-// Step: the next pairs of the open range of that version, as many as both buffers have places for, where there are sixteen tickets.
-fn step_range_value(
-    keys: &[u64],
-    values: &[i64],
-    rows: &[u32],
-    buckets: &[u32],
-    count: usize,
-    tickets: [Ticket; 16],
-    coordinator: Coordinator,
-    version: Version,
-    out_keys: &mut [i64],
-    out_values: &mut [i64],
-) -> ranges::Step
-    ensures { Steps count version.0 (with (lent keys.now values.now rows.now buckets.now tickets coordinator) out_keys.old out_values.old) (with (lent keys.now values.now rows.now buckets.now result.tickets coordinator) out_keys.new out_values.new) result.answer }
-{
-    if count != 16 {
-        return ranges::Step {
-            answer: Stepped::Refused(1),
-            tickets,
-        };
-    }
-    calls::step_range(
-        keys,
-        values,
-        rows,
-        buckets,
-        tickets,
-        coordinator,
-        version,
-        out_keys,
-        out_values,
-    )
+    let Some(sixteen) = tickets.as_mut_array::<16>() else {
+        return Err(Refusal::NotSound);
+    };
+    calls::close_range(keys, values, rows, buckets, sixteen, coordinator, version)
 }
 
 // Step: the next pairs of the open range of that version, as many as both buffers have places for.
@@ -644,60 +275,24 @@ pub fn step_range(
     rows: &[u32],
     buckets: &[u32],
     tickets: &mut [Ticket],
-    coordinator: &mut Coordinator,
+    coordinator: &Coordinator,
     version: Version,
     out_keys: &mut [i64],
     out_values: &mut [i64],
-) -> Stepped
-    ensures { Steps (length tickets.old) version.0 (with (lent keys.now values.now rows.now buckets.now tickets.old coordinator.old) out_keys.old out_values.old) (with (lent keys.now values.now rows.now buckets.now tickets.new coordinator.new) out_keys.new out_values.new) result }
+) -> Result<Stepped, Refusal>
+    ensures { Steps (length tickets.old) version.0 (with (lent keys.now values.now rows.now buckets.now tickets.old coordinator.now) out_keys.old out_values.old) (with (lent keys.now values.now rows.now buckets.now tickets.new coordinator.now) out_keys.new out_values.new) result }
 {
-    let taken = load16(tickets);
-    let count = tickets.len();
-    let made = step_range_value(
+    let Some(sixteen) = tickets.as_mut_array::<16>() else {
+        return Err(Refusal::NotSound);
+    };
+    calls::step_range(
         keys,
         values,
         rows,
         buckets,
-        count,
-        taken,
+        sixteen,
         *coordinator,
         version,
-        out_keys,
-        out_values,
-    );
-    let given = made.tickets;
-    store16(tickets, given);
-    made.answer
-}
-
-// Fast range: all pairs within the bounds, where they are at most 64 and both buffers have places for them, where there are sixteen tickets.
-fn fast_range_value(
-    keys: &[u64],
-    values: &[i64],
-    rows: &[u32],
-    buckets: &[u32],
-    count: usize,
-    tickets: [Ticket; 16],
-    coordinator: Coordinator,
-    low: i64,
-    high: i64,
-    out_keys: &mut [i64],
-    out_values: &mut [i64],
-) -> Ranged
-    ensures { Ranges count low high (with (lent keys.now values.now rows.now buckets.now tickets coordinator) out_keys.old out_values.old) (with (lent keys.now values.now rows.now buckets.now tickets coordinator) out_keys.new out_values.new) result }
-{
-    if count != 16 {
-        return Ranged::Refused(1);
-    }
-    calls::fast_range(
-        keys,
-        values,
-        rows,
-        buckets,
-        tickets,
-        coordinator,
-        low,
-        high,
         out_keys,
         out_values,
     )
@@ -709,106 +304,30 @@ pub fn fast_range(
     values: &[i64],
     rows: &[u32],
     buckets: &[u32],
-    tickets: &mut [Ticket],
-    coordinator: &mut Coordinator,
+    tickets: &[Ticket],
+    coordinator: &Coordinator,
     low: i64,
     high: i64,
     out_keys: &mut [i64],
     out_values: &mut [i64],
-) -> Ranged
-    ensures { Ranges (length tickets.old) low high (with (lent keys.now values.now rows.now buckets.now tickets.old coordinator.old) out_keys.old out_values.old) (with (lent keys.now values.now rows.now buckets.now tickets.new coordinator.new) out_keys.new out_values.new) result }
+) -> Result<u32, Refusal>
+    ensures { Ranges (length tickets.now) low high (with (lent keys.now values.now rows.now buckets.now tickets.now coordinator.now) out_keys.old out_values.old) (with (lent keys.now values.now rows.now buckets.now tickets.now coordinator.now) out_keys.new out_values.new) result }
 {
-    let taken = load16(tickets);
-    let count = tickets.len();
-    fast_range_value(
+    let Some(sixteen) = tickets.as_array::<16>() else {
+        return Err(Refusal::NotSound);
+    };
+    calls::fast_range(
         keys,
         values,
         rows,
         buckets,
-        count,
-        taken,
+        sixteen,
         *coordinator,
         low,
         high,
         out_keys,
         out_values,
     )
-}
-
-// Why a list ended, and how many bytes, calls and pairs were used.
-#[derive(Clone, Copy)]
-pub struct Run {
-    pub end: End,
-    pub used: usize,
-    pub calls: usize,
-    pub pairs: usize,
-}
-
-// A run, and the tickets and the coordinator afterwards.
-#[derive(Clone, Copy)]
-struct Ran {
-    pub run: Run,
-    pub tickets: [Ticket; 16],
-    pub coordinator: Coordinator,
-}
-
-// The calls of a list, where there are sixteen tickets.
-fn run_list_value(
-    keys: &mut [u64],
-    values: &mut [i64],
-    rows: &mut [u32],
-    buckets: &mut [u32],
-    count: usize,
-    tickets: [Ticket; 16],
-    coordinator: Coordinator,
-    bytes: &[u8],
-    more: bool,
-    answers: &mut [i64],
-    out_keys: &mut [i64],
-    out_values: &mut [i64],
-) -> Ran
-    ensures { Runs count bytes.now more (rooms (lent keys.old values.old rows.old buckets.old tickets coordinator) answers.old out_keys.old out_values.old) (rooms (lent keys.new values.new rows.new buckets.new result.tickets result.coordinator) answers.new out_keys.new out_values.new) result.run }
-{
-    if count != 16 {
-        let run = Run {
-            end: End::Refused(1),
-            used: 0,
-            calls: 0,
-            pairs: 0,
-        };
-        return Ran {
-            run,
-            tickets,
-            coordinator,
-        };
-    }
-    let batch = batch::run_list(
-        keys,
-        values,
-        rows,
-        buckets,
-        tickets,
-        coordinator,
-        bytes,
-        more,
-        answers,
-        out_keys,
-        out_values,
-    );
-    let end = batch.end;
-    let run = Run {
-        end,
-        used: batch.used,
-        calls: batch.calls,
-        pairs: batch.pairs,
-    };
-    let given = batch.tickets;
-    let coordinator_now = batch.coordinator;
-    Ran {
-        run,
-        tickets: given,
-        coordinator: coordinator_now,
-    }
 }
 
 // Makes the calls of a list, taken as schedule bytes, one after another; soundness is tested once.
@@ -824,27 +343,28 @@ pub fn run_list(
     answers: &mut [i64],
     out_keys: &mut [i64],
     out_values: &mut [i64],
-) -> Run
+) -> Batch
     ensures { Runs (length tickets.old) bytes.now more (rooms (lent keys.old values.old rows.old buckets.old tickets.old coordinator.old) answers.old out_keys.old out_values.old) (rooms (lent keys.new values.new rows.new buckets.new tickets.new coordinator.new) answers.new out_keys.new out_values.new) result }
 {
-    let taken = load16(tickets);
-    let count = tickets.len();
-    let made = run_list_value(
+    let Some(sixteen) = tickets.as_mut_array::<16>() else {
+        return Batch {
+            end: End::Refused(Refusal::NotSound),
+            used: 0,
+            calls: 0,
+            pairs: 0,
+        };
+    };
+    batch::run_list(
         keys,
         values,
         rows,
         buckets,
-        count,
-        taken,
-        *coordinator,
+        sixteen,
+        coordinator,
         bytes,
         more,
         answers,
         out_keys,
         out_values,
-    );
-    let given = made.tickets;
-    store16(tickets, given);
-    *coordinator = made.coordinator;
-    made.run
+    )
 }

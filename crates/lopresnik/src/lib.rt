@@ -4,7 +4,7 @@
 mod writing;
 
 ghost use Rattle.std.specs.Prelude.{◌≡◌, true, false, [], length};
-ghost use Rattle.model.specs.Answers.{of_found, of_inserted, of_removed, of_handed, of_nearest, of_ranged, of_opened, of_stepped, of_closed, of_swept, of_tallied};
+ghost use Rattle.model.specs.Answers.{of_result, of_found, of_inserted, of_removed, of_handed, of_nearest, of_ranged, of_opened, of_stepped, of_closed, of_swept, of_tallied};
 ghost use Rattle.tables.specs.Tables.{version};
 ghost use Rattle.soundness.specs.Tested.{lent};
 ghost use Rattle.calls.specs.Entries.{with};
@@ -13,13 +13,8 @@ ghost use Rattle.lent.specs.Forms.{SetsUp, Looks, Nears, Tallies, Inserts, Remov
 ghost use Rattle.lopresnik.specs.Exports.{Gives, refusal, ending, ran};
 ghost use Rattle.lopresnik.specs.Written.{interface};
 
-use batch::End;
-use lent::Run;
-use model::{
-    Closed, Found, Handed, Inserted, Nearest, Opened, Ranged, Removed, SetUp, Stepped, Swept,
-    Tallied,
-};
-use rows::wide;
+use batch::{Batch, End, Told};
+use model::Refusal;
 use sizes::{Node, Version};
 use tables::{Coordinator, Ticket};
 pub use writing::{lopresnik_write_call, lopresnik_write_header};
@@ -29,14 +24,14 @@ const INTERFACE: u32 = 1;
 
 // An answer as the batch lays it down: the call's code, 0 or the refusal, and up to three numbers.
 #[repr(C)]
-#[derive(Clone, Copy)]
+#[derive(Clone, Copy, Debug, PartialEq, Eq)]
 pub struct Answer {
     pub cells: [i64; 5],
 }
 
 // What a list came to: why it ended (0 the list ended, 1 `stop`, 2 more bytes are needed, 3 the room might not suffice, 4 refused), the offset of a stop or the number of a refusal, and how many bytes, calls and pairs were used.
 #[repr(C)]
-#[derive(Clone, Copy)]
+#[derive(Clone, Copy, Debug, PartialEq, Eq)]
 pub struct Ran {
     pub end: u32,
     pub at: usize,
@@ -45,128 +40,36 @@ pub struct Ran {
     pub pairs: usize,
 }
 
-// 0, or the refusal of a set-up.
-fn set_up_number(answer: SetUp) -> u32
-    ensures { result ≡ refusal answer }
+// An answer in cells.
+fn answer<T: Told>(code: u32, made: Result<T, Refusal>) -> Answer
+    ensures { result.cells ≡ cells_of code (of_result T.told made) }
 {
-    match answer {
-        SetUp::Done => 0,
-        SetUp::Refused(n) => n,
+    Answer {
+        cells: batch::cells(code, made),
     }
 }
 
-fn found_answer(answer: Found) -> Answer
-    ensures { result.cells ≡ cells_of 0 (of_found answer) }
-{
-    let cells = batch::found_cells(answer);
-    Answer { cells }
-}
-
-fn inserted_answer(answer: Inserted) -> Answer
-    ensures { result.cells ≡ cells_of 1 (of_inserted answer) }
-{
-    let cells = batch::inserted_cells(answer);
-    Answer { cells }
-}
-
-fn removed_answer(answer: Removed) -> Answer
-    ensures { result.cells ≡ cells_of 2 (of_removed answer) }
-{
-    let cells = batch::removed_cells(answer);
-    Answer { cells }
-}
-
-fn handed_answer(answer: Handed) -> Answer
-    ensures { result.cells ≡ cells_of 3 (of_handed answer) }
-{
-    let cells = batch::handed_cells(answer);
-    Answer { cells }
-}
-
-// Of ceil, floor, succ and pred, by their code.
-fn nearest_answer(code: u32, answer: Nearest) -> Answer
-    ensures { result.cells ≡ cells_of code (of_nearest answer) }
-{
-    let cells = batch::nearest_cells(code, answer);
-    Answer { cells }
-}
-
-fn ranged_answer(answer: Ranged) -> Answer
-    ensures { result.cells ≡ cells_of 8 (of_ranged [] [] answer) }
-{
-    let cells = batch::ranged_cells(answer);
-    Answer { cells }
-}
-
-fn opened_answer(answer: Opened) -> Answer
-    ensures { result.cells ≡ cells_of 9 (of_opened answer) }
-{
-    let cells = batch::opened_cells(answer);
-    Answer { cells }
-}
-
-fn stepped_answer(answer: Stepped) -> Answer
-    ensures { result.cells ≡ cells_of 10 (of_stepped [] [] answer) }
-{
-    let cells = batch::stepped_cells(answer);
-    Answer { cells }
-}
-
-fn closed_answer(answer: Closed) -> Answer
-    ensures { result.cells ≡ cells_of 11 (of_closed answer) }
-{
-    let cells = batch::closed_cells(answer);
-    Answer { cells }
-}
-
-fn swept_answer(answer: Swept) -> Answer
-    ensures { result.cells ≡ cells_of 12 (of_swept answer) }
-{
-    let cells = batch::swept_cells(answer);
-    Answer { cells }
-}
-
-fn tallied_answer(answer: Tallied) -> Answer
-    ensures { result.cells ≡ cells_of 13 (of_tallied answer) }
-{
-    let cells = batch::tallied_cells(answer);
-    Answer { cells }
-}
-
-// Why a list ended, as a number.
-fn end_number(end: End) -> u32
-    ensures { result ≡ (ending end).0 }
+// Why a list ended, as a number; and the offset of a stop, the number of a refusal, or 0.
+fn end_numbers(end: End) -> (u32, usize)
+    ensures { result ≡ ending end }
 {
     match end {
-        End::Ended => 0,
-        End::Stop(_) => 1,
-        End::More => 2,
-        End::Full => 3,
-        End::Refused(_) => 4,
-    }
-}
-
-// The offset of a stop, the number of a refusal, or 0.
-fn end_place(end: End) -> usize
-    ensures { result ≡ (ending end).1 }
-{
-    match end {
-        End::Ended => 0,
-        End::Stop(place) => place,
-        End::More => 0,
-        End::Full => 0,
-        End::Refused(n) => wide(n),
+        End::Ended => (0, 0),
+        End::Stop(place) => (1, place),
+        End::More => (2, 0),
+        End::Full => (3, 0),
+        End::Refused(refusal) => (4, u32::from(refusal) as usize),
     }
 }
 
 // A run in plain numbers.
-fn run_numbers(run: Run) -> Ran
+fn run_numbers(run: Batch) -> Ran
     ensures { result ≡ ran run }
 {
-    let why = run.end;
+    let (end, at) = end_numbers(run.end);
     Ran {
-        end: end_number(why),
-        at: end_place(why),
+        end,
+        at,
         used: run.used,
         calls: run.calls,
         pairs: run.pairs,
@@ -203,7 +106,10 @@ pub fn lopresnik_set_up(
         capacity,
         Version(start),
     );
-    set_up_number(made)
+    match made {
+        Ok(()) => 0,
+        Err(refusal) => u32::from(refusal),
+    }
 }
 
 // Lookup: the value of the key.
@@ -219,7 +125,7 @@ pub fn lopresnik_lookup(
     ensures { Gives (Looks (length tickets.old) key (lent keys.now values.now rows.now buckets.now tickets.old coordinator.old) (lent keys.now values.now rows.now buckets.now tickets.new coordinator.new)) (λ a. cells_of 0 (of_found a)) result.cells }
 {
     let made = lent::lookup(keys, values, rows, buckets, tickets, coordinator, key);
-    found_answer(made)
+    answer(0, made)
 }
 
 // Insert: the key with its value; the coin makes its height.
@@ -247,7 +153,7 @@ pub fn lopresnik_insert(
         value,
         coin,
     );
-    inserted_answer(made)
+    answer(1, made)
 }
 
 // Remove: the key's node becomes pending.
@@ -263,7 +169,7 @@ pub fn lopresnik_remove(
     ensures { Gives (Removes (length tickets.old) key (lent keys.now values.now rows.old buckets.old tickets.old coordinator.old) (lent keys.now values.now rows.new buckets.new tickets.new coordinator.new)) (λ a. cells_of 2 (of_removed a)) result.cells }
 {
     let made = lent::remove(keys, values, rows, buckets, tickets, coordinator, key);
-    removed_answer(made)
+    answer(2, made)
 }
 
 // Hand over: a pending node is freed at once, or joins the list of the latest range.
@@ -287,7 +193,7 @@ pub fn lopresnik_hand_over(
         coordinator,
         Node(node),
     );
-    handed_answer(made)
+    answer(3, made)
 }
 
 // Ceil: the nearest present key at or above.
@@ -303,7 +209,7 @@ pub fn lopresnik_ceil(
     ensures { Gives (Nears (length tickets.old) key 0 true (lent keys.now values.now rows.now buckets.now tickets.old coordinator.old) (lent keys.now values.now rows.now buckets.now tickets.new coordinator.new)) (λ a. cells_of 4 (of_nearest a)) result.cells }
 {
     let made = lent::ceil(keys, values, rows, buckets, tickets, coordinator, key);
-    nearest_answer(4, made)
+    answer(4, made)
 }
 
 // Floor: the nearest present key at or below.
@@ -319,7 +225,7 @@ pub fn lopresnik_floor(
     ensures { Gives (Nears (length tickets.old) key 1 true (lent keys.now values.now rows.now buckets.now tickets.old coordinator.old) (lent keys.now values.now rows.now buckets.now tickets.new coordinator.new)) (λ a. cells_of 5 (of_nearest a)) result.cells }
 {
     let made = lent::floor(keys, values, rows, buckets, tickets, coordinator, key);
-    nearest_answer(5, made)
+    answer(5, made)
 }
 
 // Succ: the nearest present key above.
@@ -335,7 +241,7 @@ pub fn lopresnik_succ(
     ensures { Gives (Nears (length tickets.old) key 0 false (lent keys.now values.now rows.now buckets.now tickets.old coordinator.old) (lent keys.now values.now rows.now buckets.now tickets.new coordinator.new)) (λ a. cells_of 6 (of_nearest a)) result.cells }
 {
     let made = lent::succ(keys, values, rows, buckets, tickets, coordinator, key);
-    nearest_answer(6, made)
+    answer(6, made)
 }
 
 // Pred: the nearest present key below.
@@ -351,7 +257,7 @@ pub fn lopresnik_pred(
     ensures { Gives (Nears (length tickets.old) key 1 false (lent keys.now values.now rows.now buckets.now tickets.old coordinator.old) (lent keys.now values.now rows.now buckets.now tickets.new coordinator.new)) (λ a. cells_of 7 (of_nearest a)) result.cells }
 {
     let made = lent::pred(keys, values, rows, buckets, tickets, coordinator, key);
-    nearest_answer(7, made)
+    answer(7, made)
 }
 
 // Fast range: all pairs within the bounds, where they are at most 64 and both buffers have places for them.
@@ -381,7 +287,7 @@ pub fn lopresnik_fast_range(
         out_keys,
         out_values,
     );
-    ranged_answer(made)
+    answer(8, made)
 }
 
 // Open: a range with these bounds; the answer is its version.
@@ -398,7 +304,7 @@ pub fn lopresnik_open_range(
     ensures { Gives (Opens (length tickets.old) low high (lent keys.now values.now rows.now buckets.now tickets.old coordinator.old) (lent keys.now values.now rows.now buckets.now tickets.new coordinator.new)) (λ a. cells_of 9 (of_opened a)) result.cells }
 {
     let made = lent::open_range(keys, values, rows, buckets, tickets, coordinator, low, high);
-    opened_answer(made)
+    answer(9, made)
 }
 
 // Step: the next pairs of the open range of that version, as many as both buffers have places for.
@@ -426,7 +332,7 @@ pub fn lopresnik_step_range(
         out_keys,
         out_values,
     );
-    stepped_answer(made)
+    answer(10, made)
 }
 
 // Close: the open range of that version, at any moment.
@@ -450,7 +356,7 @@ pub fn lopresnik_close_range(
         coordinator,
         Version(version),
     );
-    closed_answer(made)
+    answer(11, made)
 }
 
 // Sweep: the first due node is freed.
@@ -465,7 +371,7 @@ pub fn lopresnik_sweep(
     ensures { Gives (Sweeps (length tickets.old) (lent keys.now values.now rows.old buckets.now tickets.old coordinator.old) (lent keys.now values.now rows.new buckets.now tickets.new coordinator.new)) (λ a. cells_of 12 (of_swept a)) result.cells }
 {
     let made = lent::sweep(keys, values, rows, buckets, tickets, coordinator);
-    swept_answer(made)
+    answer(12, made)
 }
 
 // Tally: present nodes, held nodes, free nodes.
@@ -480,7 +386,7 @@ pub fn lopresnik_tally(
     ensures { Gives (Tallies (length tickets.old) (lent keys.now values.now rows.now buckets.now tickets.old coordinator.old) (lent keys.now values.now rows.now buckets.now tickets.new coordinator.new)) (λ a. cells_of 13 (of_tallied a)) result.cells }
 {
     let made = lent::tally(keys, values, rows, buckets, tickets, coordinator);
-    tallied_answer(made)
+    answer(13, made)
 }
 
 // Makes the calls of a list, taken as schedule bytes, one after another; soundness is tested once.

@@ -77,5 +77,9 @@ paired (suc n) (k ∷ ks) (v ∷ vs) = (k, v) ∷ paired n ks vs
 abbrev pub of_ranged : List ℤ → List ℤ → Result ℕ Refusal → Answer
 of_ranged ks vs = of_result (λ n. answered (pos n ∷ []) (paired n ks vs))
 
+-- a step's numbers alone
+abbrev pub told_stepped : Stepped → Answer
+told_stepped s = told (s.pairs ∷ cond s.finished 1 0 ∷ [])
+
 abbrev pub of_stepped : List ℤ → List ℤ → Result Stepped Refusal → Answer
 of_stepped ks vs = of_result (λ (s : Stepped). answered (pos s.pairs ∷ pos (cond s.finished 1 0) ∷ []) (paired s.pairs ks vs))
