@@ -28,26 +28,18 @@ fn shown_cells(code: u64, res: u64) -> usize
     if res != 0 {
         return 2;
     }
-    if code == 10 {
-        return 4;
+    match code {
+        10 | 12 => 4,
+        13 => 5,
+        _ => 3,
     }
-    if code == 12 {
-        return 4;
-    }
-    if code == 13 {
-        return 5;
-    }
-    3
 }
 
 // Whether a call of this code, where it is not refused, hands out pairs.
 fn hands_out(code: u64) -> bool
     ensures { result ≡ hands_out code }
 {
-    if code == 8 {
-        return true;
-    }
-    code == 10
+    code == 8 || code == 10
 }
 
 // How many pairs a call handed out, which its first number says.
@@ -77,7 +69,7 @@ pub fn put_transaction(
     ensures { (code : ℕ) (answer : Answer) → Told code answer cells.now keys.now values.now → Put out.old at (longest (6 + 2 * length keys.now)) (line_of number code answer) out.new result }
 {
     let count = shown_cells(natural(cells, 0), natural(cells, 1));
-    listing::put_line(out, at, number, cells, count, keys, values, keys.len())
+    listing::put_line(out, at, number, &cells[..count], keys, values)
 }
 
 // Puts the lines of calls behind so many transactions, from the cells and the pairs that a batch laid down.
@@ -87,28 +79,25 @@ pub fn put_lines(out: &mut [u8], before: u64, cells: &[i64], keys: &[i64], value
 {
     let mut at: usize = 0;
     let mut number = before;
-    let mut from: usize = 0;
     let mut pairs: usize = 0;
-    while from < cells.len() {
-        let to = from + 5;
-        let end = pairs + pair_count(&cells[from..to]);
+    for call in cells.chunks_exact(5) {
+        let end = pairs + pair_count(call);
         number += 1;
         at = put_transaction(
             out,
             at,
             number,
-            &cells[from..to],
+            call,
             &keys[pairs..end],
             &values[pairs..end],
         );
-        from = to;
         pairs = end;
     }
     at
 }
 
 // What a part came to: the batch, and how many bytes its lines take.
-#[derive(Clone, Copy)]
+#[derive(Clone, Copy, Debug, PartialEq, Eq)]
 pub struct Part {
     pub batch: Batch,
     pub length: usize,
@@ -120,8 +109,8 @@ pub fn run_part(
     values: &mut [i64],
     rows: &mut [u32],
     buckets: &mut [u32],
-    tickets: [Ticket; 16],
-    coordinator: Coordinator,
+    tickets: &mut [Ticket; 16],
+    coordinator: &mut Coordinator,
     bytes: &[u8],
     more: bool,
     before: u64,
@@ -131,7 +120,7 @@ pub fn run_part(
     out: &mut [u8],
 ) -> Part
     requires { Room out.old 0 (most_for (length answers.old) (length out_keys.old)) × (before + length bytes.now < 2 ^ 64) }
-    ensures { Printed (input_of (lent keys.old values.old rows.old buckets.old tickets coordinator) bytes.now more answers.old out_keys.old out_values.old) before out.old (output_of keys.new values.new rows.new buckets.new answers.new out_keys.new out_values.new result.batch) out.new result.length }
+    ensures { Printed (input_of (lent keys.old values.old rows.old buckets.old tickets.old coordinator.old) bytes.now more answers.old out_keys.old out_values.old) before out.old (output_of (lent keys.new values.new rows.new buckets.new tickets.new coordinator.new) answers.new out_keys.new out_values.new result.batch) out.new result.length }
 {
     let batch = batch::run_list(
         keys,

@@ -18,15 +18,15 @@ use sizes::{Node, Version};
 use tables::{Coordinator, Ticket};
 
 // The index of the ticket of that version among these.
-fn find_ticket(tickets: &[Ticket], version: Version) -> Option<usize>
+pub fn find_ticket(tickets: &[Ticket], version: Version) -> Option<usize>
     ensures { result ≡ place_of version.0 tickets.now }
 {
     tickets.iter().position(|ticket| ticket.version == version)
 }
 
 // The open tickets behind the index j, one down.
-fn drop_ticket(tickets: &mut [Ticket; 16], ranges: usize, j: usize)
-    requires { (j < ranges) × (ranges ≤ 16) }
+pub fn drop_ticket(tickets: &mut [Ticket], ranges: usize, j: usize)
+    requires { (j < ranges) × (ranges ≤ length tickets.old) }
     ensures { tickets.new ≡ slide j ranges tickets.old }
 {
     for i in j + 1..ranges {

@@ -1,13 +1,15 @@
 -- The open tickets of a run: one found, one moved on, one removed at close.
 -- Assumes nothing.
-use Rattle.std.specs.Prelude.{Bool, true, false, cond, List, ℕ, ◌-◌, min, length, set, eqb, ltb}
+use Rattle.std.specs.Prelude.{Bool, true, false, cond, List, ℕ, ◌-◌, min, length, set, eqb, ltb, Option, Some, None}
 use Rattle.sizes.specs.declared.Node.{Node}
 use Rattle.tables.specs.declared.Ticket.{Ticket}
 use Rattle.tables.specs.Tables.{ticket_at, gained}
 use Rattle.ranges.specs.Tickets.{index_of, slide}
-use Rattle.tickets_open.specs.declared.Place.{Place}
-use Rattle.tickets_open.specs.declared.Place.TheVariants.{At, Nothing}
-use Rattle.tickets_open.specs.declared.Changed.{Changed}
+
+-- whether there was such a ticket, and the tickets afterwards
+pub record Changed : Type 0 where
+  pub answer : Bool
+  pub tickets : List Ticket
 
 -- how many are open: of sixteen tickets so many, of any other number none
 abbrev pub open_in : ℕ → ℕ → ℕ
@@ -16,11 +18,11 @@ open_in count ranges = cond (eqb count 16) (min 16 ranges) 0
 -- ---- one found by its version: the first of k tickets
 
 -- its place among the first k
-abbrev pub found_in : ℕ → List Ticket → ℕ → Place
-found_in k ts v = cond (ltb (index_of v k ts) k) (At (index_of v k ts)) Nothing
+abbrev pub found_in : ℕ → List Ticket → ℕ → Option ℕ
+found_in k ts v = cond (ltb (index_of v k ts) k) (Some (index_of v k ts)) None
 
 -- its place in a run
-abbrev pub found : List Ticket → ℕ → ℕ → Place
+abbrev pub found : List Ticket → ℕ → ℕ → Option ℕ
 found ts ranges v = found_in (open_in (length ts) ranges) ts v
 
 -- ---- one moved on: it rests on another node, and nothing else changes
