@@ -20,6 +20,9 @@ use Rattle.lists.proofs.Splits.{all_in, in_all, in_split}
 use Rattle.lists.proofs.Tallies.{in_filter}
 use Rattle.lists.proofs.Reversing.{filter_reverse, head_reverse}
 use Rattle.rows.specs.Rows.{places, links}
+use Rattle.rows.specs.declared.Direction.{Direction}
+use Rattle.rows.specs.declared.Direction.TheVariants.{After, Before}
+use Rattle.rows.specs.Columns.{way}
 use Rattle.levels.specs.declared.Found as L
 use Rattle.levels.specs.Levels.{sentinel, order_of}
 use Rattle.levels.specs.Search.{up_to, searched}
@@ -34,6 +37,11 @@ use Rattle.finds.specs.Near.{past, beyond, nodes_beyond, near_of, NearReady}
 use Rattle.finds.proofs.Turning.{pairwise_reverse, pairwise_weak, pairwise_passed}
 
 -- ---- keys in a direction
+
+-- a direction is 0 or 1
+pub way_most : (d : Direction) → way d ≤ 1
+way_most After = omega arith
+way_most Before = omega arith
 
 -- b is past a: they differ, and a is not past b
 pub past_apart : (d a b : ℕ) → past d a b ≡ true → (eqb a b ≡ false) × (eqb b a ≡ false) × (past d b a ≡ false)

@@ -11,11 +11,11 @@ use Rattle.changes.proofs.insert.Goals as goal
 pub overflow_cast-cap : goal.overflow_cast-cap
 overflow_cast-cap c = omega (arith, insert_few c.requires)
 
-pub returns-in-At : goal.returns-in-At
-returns-in-At c =
+pub returns-then-is_some : goal.returns-then-is_some
+returns-then-is_some c =
     let a = c.args in
     let r = rank_is a.key c.ranges.key c.rank-rank.ensures in
-    let e = find_is _ _ _ a.key c.find.ensures r c.in-At.is in
+    let e = find_is _ _ _ a.key c.find.ensures r (some_is c.if-is_some.true) in
     record { answer = sym (insert_present _ _ _ a.key _ e); to_keys = refl; to_values = refl; to_rows = refl; to_buckets = refl }
 
 pub free_count-requires : goal.free_count-requires
@@ -25,7 +25,7 @@ pub returns-then-free_count-eq0 : goal.returns-then-free_count-eq0
 returns-then-free_count-eq0 c =
     let a = c.args in
     let r = rank_is a.key c.ranges.key c.rank-rank.ensures in
-    let e = find_is _ _ _ a.key c.find.ensures r c.in_default.is in
+    let e = find_is _ _ _ a.key c.find.ensures r (none_is c.if-is_some.false) in
     record { answer = sym (insert_full _ _ _ a.key e (sym c.free_count.ensures ∙ c.if-free_count-eq0.true)); to_keys = refl; to_values = refl; to_rows = refl; to_buckets = refl }
 
 pub link_in-n-requires : goal.link_in-n-requires
@@ -37,21 +37,21 @@ link_in-n-requires c =
 pub bounds-keys-at : goal.bounds-keys-at
 bounds-keys-at c =
     let some = spare_is _ _ c.free_count.ensures c.if-free_count-eq0.false in
-    (insert_at c.requires c.wide-at.ensures c.link_in-n.ensures.node_is some).0
+    (insert_at c.requires refl c.link_in-n.ensures.node_is some).0
 
 pub bounds-values-at : goal.bounds-values-at
 bounds-values-at c =
     let some = spare_is _ _ c.free_count.ensures c.if-free_count-eq0.false in
-    (insert_at c.requires c.wide-at.ensures c.link_in-n.ensures.node_is some).1
+    (insert_at c.requires refl c.link_in-n.ensures.node_is some).1
 
 pub returns : goal.returns
 returns c =
     let a = c.args in
     let r = rank_is a.key c.ranges.key c.rank-rank.ensures in
-    let e = find_is _ _ _ a.key c.find.ensures r c.in_default.is in
+    let e = find_is _ _ _ a.key c.find.ensures r (none_is c.if-is_some.false) in
     let some = spare_is _ _ c.free_count.ensures c.if-free_count-eq0.false in
     let l = c.link_in-n.ensures in
-    let at = c.wide-at.ensures in
+    let at = refl in
     let n = l.node_is in
     record {
       answer = ap (λ i. Ok (node i)) n ∙ sym (insert_takes _ _ _ a.key e some);

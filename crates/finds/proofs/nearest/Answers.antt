@@ -8,8 +8,8 @@ use Rattle.finds.proofs.nearest.Goals as goal
 
 pub returns-then-i-keys : goal.returns-then-i-keys
 returns-then-i-keys c =
-    key_found _ _ _ _ (c.rank.ensures ∙ ap rank_of (to_z-of_z w64 c.args.key c.ranges.key)) c.near.ensures c.wide-i.ensures c.if-i-keys.true
+    key_found _ _ _ _ (c.rank.ensures ∙ ap rank_of (to_z-of_z w64 c.args.key c.ranges.key)) c.near.ensures refl c.if-i-keys.true
     (to_z-of_z w64 _ (record { sfits = c.unrank.type_inv }) ∙ c.unrank.ensures)
 
 pub returns : goal.returns
-returns c = key_none _ _ _ _ (c.rank.ensures ∙ ap rank_of (to_z-of_z w64 c.args.key c.ranges.key)) c.near.ensures c.wide-i.ensures c.if-i-keys.false
+returns c = key_none _ _ _ _ (c.rank.ensures ∙ ap rank_of (to_z-of_z w64 c.args.key c.ranges.key)) c.near.ensures refl c.if-i-keys.false
