@@ -161,6 +161,10 @@ module _ (rows : List ℕ) (n : ℕ) where
   unfolding unstitched
   unstitched_level = same_level (unstitched rows n) unstitched_levelwise
 
+  -- the neighbours of a node on the level l are those at entry, as long as only the levels below l changed
+  pub unstitched_here : (l d m : ℕ) → l < 12 → d ≤ 1 → links (unstitched rows n l) l d m ≡ links rows l d m
+  unstitched_here l d m i u = ap (λ g. g m) (unstitched_level l l d (omega arith) i u)
+
   -- LAW: at each level below h, and in each direction, the node before n leads to the node after it
   pub unstitched_link : (h : ℕ) → Unstitchable rows n h → (l d : ℕ) → l < h → d ≤ 1 → links (unstitched rows n h) l d ≡ upd (links rows l d) (links rows l (1 - d) n) (links rows l d n)
   unfolding unstitched

@@ -1,7 +1,7 @@
 -- The search's way through the levels: where it stands, one step on, one level down, and what it has found.
 -- Assumes nothing.
 use mathlib.Core.Path.{◌≡◌, refl, sym, ap, ap₂, ◌∙◌}
-use mathlib.Core.Logic.{◌≢◌, ◌⊎◌, ⊎_elim}
+use mathlib.Core.Logic.{◌⊎◌, ⊎_elim}
 use mathlib.Core.Bool.{true, false}
 use mathlib.Core.List.{List, [], ◌∷◌, ◌++◌, append_assoc, append-nil, map}
 use Prim.Native.Nat.{ℕ, zero, suc, ◌≤◌, ◌<◌, ◌+◌, ◌-◌}
@@ -91,13 +91,13 @@ module _ (keys rows : List ℕ) (cap levels rank : ℕ) where
   abbrev pub Settled : ℕ → List Pair → Type 0
   Settled l ps = (j : ℕ) → l ≤ j → j < 12 → pair_at ps j ≡ pair_on keys rows cap levels rank j
 
-  -- both loops' invariant
-  pub record Going (n l : ℕ) (ps : List Pair) : Type 0 where
-    pub below : l < levels
+  -- both loops' invariant: the levels from r on are settled
+  pub record Going (n r : ℕ) (ps : List Pair) : Type 0 where
+    pub few : r ≤ levels
     pub node : n ≤ cap
     pub sized : length ps ≡ 12
-    pub place : Place keys (heights rows) cap rank (order_of rows cap) n l
-    pub above_l : Settled (suc l) ps
+    pub place : Place keys (heights rows) cap rank (order_of rows cap) n (r - 1)
+    pub settled : Settled r ps
 
 module _ (keys rows : List ℕ) (cap levels rank : ℕ) (s : Searchable keys rows cap levels) where
   abbrev o : List ℕ
@@ -185,42 +185,41 @@ module _ (keys rows : List ℕ) (cap levels rank : ℕ) (s : Searchable keys row
 
   -- as the code comes to them: the start, a step along the level, a level down, the end
 
-  pub going_start : (l : ℕ) (ps : List Pair) → suc l ≡ levels → length ps ≡ 12 → ((j : ℕ) → j < 12 → pair_at ps j ≡ pair 0 0) → Going keys rows cap levels rank cap l ps
+  pub going_start : (ps : List Pair) → length ps ≡ 12 → ((j : ℕ) → j < 12 → pair_at ps j ≡ pair 0 0) → Going keys rows cap levels rank cap levels ps
   unfolding pair_on
-  going_start l ps e z none =
+  going_start ps z none =
       record {
-        below = omega arith;
+        few = omega arith;
         node = omega arith;
         sized = z;
-        place = place_start keys ht cap rank o l;
-        above_l = λ j i v. none j v ∙ rw (le-ltb j levels (omega arith));
+        place = place_start keys ht cap rank o (levels - 1);
+        settled = λ j i v. none j v ∙ rw (le-ltb j levels i);
       }
 
-  pub going_step : (n l m : ℕ) (ps : List Pair) → Going keys rows cap levels rank n l ps → m ≡ links rows l 0 n → m < cap → get_or keys m 0 ≤ rank
-      → Going keys rows cap levels rank m l ps × (ahead rows cap m < ahead rows cap n)
-  going_step n l m ps g e u v =
-      let q = place_step n l m g.place g.below e u v in
-      (record { below = g.below; node = omega arith; sized = g.sized; place = q.0; above_l = g.above_l }, q.1)
+  module _ (n l m : ℕ) (ps : List Pair) (g : Going keys rows cap levels rank n (l + 1) ps) (e : m ≡ links rows l 0 n) where
+    here : Standing n l
+    here = place_down keys ht cap rank o n (l + 1 - 1) l (omega arith) g.place
 
-  -- the level l is settled, and its pair stored
-  settled_more : (n l m : ℕ) (ps : List Pair) → Going keys rows cap levels rank n l ps → m ≡ links rows l 0 n → (cap ≤ m) ⊎ (rank < get_or keys m 0) → Settled keys rows cap levels rank l (set ps l (pair n m))
-  unfolding pair_on
-  settled_more n l m ps g e u j i v =
-      ⊎_elim
-      (λ q. rw (← q, get_or-set_same ps l (pair n m) (pair 0 0) (omega (arith, g.sized, g.below)), lt-ltb l levels g.below) (place_settled n l m g.place g.below e u))
-      (λ w. get_or-set_other ps l j (pair n m) (pair 0 0) (omega arith) ∙ g.above_l j w v)
-      (eq-or-lt_of_le i)
+    pub going_step : m < cap → get_or keys m 0 ≤ rank → Going keys rows cap levels rank m (l + 1) ps × (ahead rows cap m < ahead rows cap n)
+    going_step u v =
+        let q = place_step n l m here (omega (arith, g.few)) e u v in
+        (record { few = g.few; node = omega arith; sized = g.sized; place = place_down keys ht cap rank o m l (l + 1 - 1) (omega arith) q.0; settled = g.settled }, q.1)
 
-  pub going_down : (n l m : ℕ) (ps : List Pair) → Going keys rows cap levels rank n l ps → m ≡ links rows l 0 n → (cap ≤ m) ⊎ (rank < get_or keys m 0) → l ≢ 0
-      → Going keys rows cap levels rank n (l - 1) (set ps l (pair n m))
-  going_down n l m ps g e u z =
-      record {
-        below = omega (arith, g.below);
-        node = g.node;
-        sized = length-set ps l (pair n m) ∙ g.sized;
-        place = place_down keys ht cap rank o n l (l - 1) (omega arith) g.place;
-        above_l = λ j i v. settled_more n l m ps g e u j (omega arith) v;
-      }
+    -- the level l is settled, and its pair stored
+    pub going_down : (cap ≤ m) ⊎ (rank < get_or keys m 0) → Going keys rows cap levels rank n l (set ps l (pair n m))
+    unfolding pair_on
+    going_down u =
+        record {
+          few = omega (arith, g.few);
+          node = g.node;
+          sized = length-set ps l (pair n m) ∙ g.sized;
+          place = place_down keys ht cap rank o n l (l - 1) (omega arith) here;
+          settled = λ j i v.
+              ⊎_elim
+              (λ q. rw (← q, get_or-set_same ps l (pair n m) (pair 0 0) (omega (arith, g.sized, g.few, s.linked.few)), lt-ltb l levels (omega (arith, g.few))) (place_settled n l m here (omega (arith, g.few)) e u))
+              (λ w. get_or-set_other ps l j (pair n m) (pair 0 0) (omega arith) ∙ g.settled j (omega arith) v)
+              (eq-or-lt_of_le i);
+        }
 
   map_count : (f : ℕ → Pair) (d : Pair) (k n j : ℕ) → j < k → get_or (map f (count n k)) j d ≡ f (n + j)
   map_count f d zero n j i = absurd (omega arith)
@@ -236,19 +235,18 @@ module _ (keys rows : List ℕ) (cap levels rank : ℕ) (s : Searchable keys row
   unfolding searched
   searched_pair l i = let e : 0 + l ≡ l = omega arith in map_count (pair_on keys rows cap levels rank) (pair 0 0) 12 0 l i ∙ ap (pair_on keys rows cap levels rank) e
 
-  -- the lowest level is settled: the search is at its end
-  pub searched_all : (n l m : ℕ) (ps : List Pair) → Going keys rows cap levels rank n l ps → m ≡ links rows l 0 n → (cap ≤ m) ⊎ (rank < get_or keys m 0) → l ≡ 0
-      → record { pairs = set ps l (pair n m); place = pair n m } ≡ searched keys rows cap levels rank
-  unfolding searched
-  searched_all n l m ps g e u z =
+  -- every level is settled: the search is at its end
+  pub searched_all : (n : ℕ) (ps : List Pair) → Going keys rows cap levels rank n 0 ps → record { pairs = ps; place = pair_at ps 0 } ≡ searched keys rows cap levels rank
+  unfolding searched pair_on
+  searched_all n ps g =
       let f = map (pair_on keys rows cap levels rank) (count 0 12) in
-      let sz : length (set ps l (pair n m)) ≡ 12 = length-set ps l (pair n m) ∙ g.sized in
-      let all : set ps l (pair n m) ≡ f =
-      ext_get_or (pair 0 0) (set ps l (pair n m)) f (sz ∙ sym (map_count_length (pair_on keys rows cap levels rank) 12 0))
-      (λ i v. settled_more n l m ps g e u i (omega arith) (omega arith) ∙ sym (map_count (pair_on keys rows cap levels rank) (pair 0 0) 12 0 i (omega arith) ∙ ap (pair_on keys rows cap levels rank) (zero_plus i))) in
-      let low : pair n m ≡ around keys cap rank o =
-      place_settled n l m g.place g.below e u ∙ ap (around keys cap rank) (ap (λ j. level ht j o) z ∙ level_zero (λ k. links rows k 0) (λ k. links rows k 1) ht cap levels o s.linked.tall) in
-      ap₂ {C = Found} (λ (a : List Pair) (b : Pair). record { pairs = a; place = b }) all low
+      let all : ps ≡ f =
+      ext_get_or (pair 0 0) ps f (g.sized ∙ sym (map_count_length (pair_on keys rows cap levels rank) 12 0))
+      (λ i v. g.settled i (omega arith) (omega (arith, g.sized)) ∙ sym (map_count (pair_on keys rows cap levels rank) (pair 0 0) 12 0 i (omega (arith, g.sized)) ∙ ap (pair_on keys rows cap levels rank) (zero_plus i))) in
+      ap₂ {C = Found} (λ (a : List Pair) (b : Pair). record { pairs = a; place = b }) all (g.settled 0 (omega arith) (omega arith) ∙ lowest_pair)
     where
       zero_plus : (i : ℕ) → 0 + i ≡ i
       zero_plus i = omega arith
+
+      lowest_pair : pair_on keys rows cap levels rank 0 ≡ around keys cap rank o
+      lowest_pair = rw (lt-ltb 0 levels s.leveled) (ap (around keys cap rank) (level_zero (λ k. links rows k 0) (λ k. links rows k 1) ht cap levels o s.linked.tall))

@@ -1,20 +1,11 @@
 -- `levels::nearest` meets its contract. The invariant: the walk stands on the level, and the answer from there is that from the start.
-use mathlib.Core.Path.{refl, sym, ◌∙◌}
+use mathlib.Core.Path.{sym, ◌∙◌}
 use native.Mathlib.Omega.{arith}
 use Rattle.levels.proofs.Nearing.{walk_less, walk_on, nearest_here, nearest_on, nearest_end}
 use Rattle.levels.proofs.nearest.Goals as goal
 
-pub loop-m-init : goal.loop-m-init
-loop-m-init c = (c.requires, refl)
-
-pub cell-requires : goal.cell-requires
-cell-requires c = omega (arith, c.loop-m.invariant.0.lowest.size)
-
 pub returns-then-cell-eq-IS_PRESENT : goal.returns-then-cell-eq-IS_PRESENT
 returns-then-cell-eq-IS_PRESENT c = nearest_here _ _ _ _ c.loop-m.invariant.0 (omega arith) (sym c.cell.ensures ∙ c.if-cell-eq-IS_PRESENT.true) ∙ c.loop-m.invariant.1
-
-pub link-m-requires : goal.link-m-requires
-link-m-requires c = omega (arith, c.loop-m.invariant.0.lowest.size, c.loop-m.invariant.0.direction)
 
 pub loop-m-smaller : goal.loop-m-smaller
 loop-m-smaller c = rw c.link-m.ensures (walk_less _ _ _ _ c.loop-m.invariant.0 (omega arith))

@@ -1,12 +1,7 @@
 -- `levels::unstitch` meets its contract. The invariant: the rows are those at entry with the neighbours of n linked at each level below l.
-use Prim.Native.Nat.{◌≤◌, ◌-◌}
-use mathlib.Core.Path.{◌≡◌}
-use lib.ListN.{length}
+use Rattle.std.proofs.Common.{◌≡◌}
 use Rattle.levels.specs.Stitch.{unstitched}
 use Rattle.levels.proofs.unstitch.Given as goal
 
 abbrev pub invariant-loop-l : goal.invariant-loop-l
-invariant-loop-l l = (l.l ≤ l.height) × (length l.rows ≡ length l.initial.rows) × (l.rows ≡ unstitched l.initial.rows l.n l.l) × (l.h ≡ l.height)
-
-abbrev pub decreases-loop-l : goal.decreases-loop-l
-decreases-loop-l l = l.h - l.l
+invariant-loop-l l = l.rows ≡ unstitched l.initial.rows l.n l.l
