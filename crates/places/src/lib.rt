@@ -1,7 +1,7 @@
 // The one place of each node: the free stack, the ring of retired nodes, and the count of present ones.
 #![tactic(auto)]
 
-ghost use Rattle.std.specs.Prelude.{◌≡◌, ◌<◌, ◌≤◌, length};
+ghost use Rattle.std.specs.Prelude.{◌≡◌, ◌*◌, ◌<◌, ◌≤◌, length};
 ghost use Rattle.lists.specs.Tests.{Says};
 ghost use Rattle.rows.specs.Rows.{column, places, seats};
 ghost use Rattle.places.specs.Places.{Sized, free_count, ring_front, present_count, wrapped, slot, free_of, ring_of, first_free, first_retired, Seated, Seats, Places, nodes_in, Counted};
@@ -108,13 +108,11 @@ pub fn clear_places(rows: &mut [u32], cap: u32)
     requires { Sized rows.old cap }
     ensures { rows.new ≡ cleared rows.old cap }
 {
-    let mut i: u32 = 0;
-    while i < cap {
+    for i in 0..cap {
         let seat = cap - 1 - i;
         put(rows, i, PLACE, IS_FREE);
         put(rows, i, SEAT, seat);
         put(rows, i, FREE, seat);
-        i += 1;
     }
     put(rows, cap, FREE, cap);
     put(rows, cap, RING, 0);
@@ -128,16 +126,7 @@ fn seated(rows: &[u32], cap: u32, f: usize, p: u32, seat: u32) -> bool
     ensures { Says result (Seated (column rows.now f) (places rows.now) (seats rows.now) cap p seat) }
 {
     let n = cell(rows, seat, f);
-    if n >= cap {
-        return false;
-    }
-    if cell(rows, n, PLACE) != p {
-        return false;
-    }
-    if cell(rows, n, SEAT) != seat {
-        return false;
-    }
-    true
+    n < cap && cell(rows, n, PLACE) == p && cell(rows, n, SEAT) == seat
 }
 
 // The same for the k entries of a ring from the front on. A stack is a ring whose front is 0.
@@ -145,13 +134,10 @@ fn all_seated(rows: &[u32], cap: u32, f: usize, p: u32, front: u32, k: u32) -> b
     requires { Sized rows.now cap × (f < 32) × (front < cap) × (k ≤ cap) }
     ensures { Says result (Seats (column rows.now f) (places rows.now) (seats rows.now) cap p k (slot cap front)) }
 {
-    let mut i: u32 = 0;
-    while i < k {
-        let seat = wrap(front + i, cap);
-        if !seated(rows, cap, f, p, seat) {
+    for i in 0..k {
+        if !seated(rows, cap, f, p, wrap(front + i, cap)) {
             return false;
         }
-        i += 1;
     }
     true
 }
@@ -164,39 +150,25 @@ pub fn places_ok(rows: &[u32], cap: u32) -> bool
     let spare = cell(rows, cap, FREE);
     let front = cell(rows, cap, RING);
     let count = cell(rows, cap + 1, RING);
-    if spare > cap {
+    if spare > cap || front >= cap || count > cap {
         return false;
     }
-    if front >= cap {
-        return false;
-    }
-    if count > cap {
-        return false;
-    }
-    if !all_seated(rows, cap, FREE, IS_FREE, 0, spare) {
-        return false;
-    }
-    if !all_seated(rows, cap, RING, IS_RETIRED, front, count) {
-        return false;
-    }
-    true
+    all_seated(rows, cap, FREE, IS_FREE, 0, spare)
+        && all_seated(rows, cap, RING, IS_RETIRED, front, count)
 }
 
 // How many nodes are in the place p.
 pub fn count_in(rows: &[u32], cap: u32, p: u32) -> u32
-    requires { Sized rows.now cap }
+    requires { cap * 32 ≤ length rows.now }
     ensures { result ≡ length (nodes_in (places rows.now) p cap) }
 {
-    let mut k: u32 = 0;
-    let mut n: u32 = 0;
-    while n < cap {
-        let here = cell(rows, n, PLACE);
-        n += 1;
-        if here == p {
-            k += 1;
+    let mut total = 0;
+    for n in 0..cap {
+        if cell(rows, n, PLACE) == p {
+            total += 1;
         }
     }
-    k
+    total
 }
 
 // Whether the stored count of present nodes agrees with the places.
