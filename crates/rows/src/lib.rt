@@ -2,28 +2,32 @@
 #![tactic(auto)]
 
 ghost use Rattle.std.specs.Prelude.{◌≡◌, ◌+◌, ◌*◌, ◌≤◌, ◌<◌, length};
+ghost use Rattle.rows.specs.Columns.{number_of};
 ghost use Rattle.rows.specs.Rows.{address, column, put};
+ghost use Rattle.rows.specs.declared.Column.TheVariants.{Link};
 
-// The columns of the fields; the column of a link is given by `levels`.
-pub const HEIGHT: usize = 0;
+// The two directions along a level.
+#[derive(Clone, Copy, Debug, PartialEq, Eq)]
+pub enum Direction {
+    After,
+    Before,
+}
 
-pub const INSERTED: usize = 1;
+// The columns: the eight fields, and the links of a level in a direction.
+#[derive(Clone, Copy, Debug, PartialEq, Eq)]
+pub enum Column {
+    Height,
+    Inserted,
+    Removed,
+    Place,
+    Seat,
+    Chain,
+    Free,
+    Ring,
+    Link(usize, Direction),
+}
 
-pub const REMOVED: usize = 2;
-
-pub const PLACE: usize = 3;
-
-pub const SEAT: usize = 4;
-
-pub const CHAIN: usize = 5;
-
-pub const FREE: usize = 6;
-
-pub const RING: usize = 7;
-
-pub const LINKS: usize = 8;
-
-// The places of a node.
+// The places of a node: numbers, because a cell of lent memory may hold any number, and a test compares it.
 pub const IS_FREE: u32 = 0;
 
 pub const IS_PRESENT: u32 = 1;
@@ -32,55 +36,64 @@ pub const IS_PENDING: u32 = 2;
 
 pub const IS_RETIRED: u32 = 3;
 
+// The number as an index.
 pub fn wide(x: u32) -> usize
     ensures { result ≡ x }
 {
     x as usize
 }
 
-// Where the cell of the row n in the column f stands, of c rows: four columns first, then the rows of the other fields and the links up to level 5, then those of the
+// Where the link of the row n on the level l in the direction d stands, of c rows: first the links after on level 0 alone, which a walk of the lowest level reads.
+#[tactic(auto, unfolding(crate::specs::Rows::address))]
+fn link_address(c: usize, n: usize, l: usize, d: Direction) -> usize
+    requires { (n < c) × (l < 12) × (c * 32 ≤ 18446744073709551615) }
+    ensures { (result ≡ address c n (number_of (Link l d))) × (result < c * 32) }
+{
+    let f = l * 2 + d as usize;
+    if f == 0 {
+        n
+    } else if f < 12 {
+        c * 4 + n * 16 + (f + 4)
+    } else {
+        c * 20 + n * 12 + (f - 12)
+    }
+}
+
+// Where the cell of the row n in a column stands, of c rows: four columns first, then the rows of the other fields and the links up to level 5, then those of the
 // levels above. So a walk of the lowest level reads whole cache lines of few columns.
-fn address(c: usize, n: usize, f: usize) -> usize
-    requires { (n < c) × (f < 32) × (c * 32 ≤ 18446744073709551615) }
-    ensures { (result ≡ address c n f) × (result < c * 32) }
+#[tactic(auto, unfolding(crate::specs::Rows::address))]
+fn address(c: usize, n: usize, which: Column) -> usize
+    requires { (n < c) × (number_of which < 32) × (c * 32 ≤ 18446744073709551615) }
+    ensures { (result ≡ address c n (number_of which)) × (result < c * 32) }
 {
-    if f < 3 {
-        return c * 4 + n * 16 + f;
+    match which {
+        Column::Height => c * 4 + n * 16,
+        Column::Inserted => c * 4 + n * 16 + 1,
+        Column::Removed => c * 4 + n * 16 + 2,
+        Column::Place => c * 3 + n,
+        Column::Seat => c * 4 + n * 16 + 3,
+        Column::Chain => c * 4 + n * 16 + 4,
+        Column::Free => c * 2 + n,
+        Column::Ring => c + n,
+        Column::Link(l, d) => link_address(c, n, l, d),
     }
-    if f < 4 {
-        return c * 3 + n;
-    }
-    if f < 6 {
-        return c * 4 + n * 16 + (f - 1);
-    }
-    if f < 7 {
-        return c * 2 + n;
-    }
-    if f < 8 {
-        return c + n;
-    }
-    if f < 9 {
-        return n;
-    }
-    if f < 20 {
-        return c * 4 + n * 16 + (f - 4);
-    }
-    c * 20 + n * 12 + (f - 20)
 }
 
-// The cell of the row n in the column f.
-pub fn cell(rows: &[u32], n: u32, f: usize) -> u32
-    requires { (n * 32 + 32 ≤ length rows.now) × (f < 32) }
-    ensures { result ≡ column rows.now f n }
+// The cell of the row n in a column.
+#[tactic(auto, unfolding(crate::specs::Rows::column))]
+pub fn cell(rows: &[u32], n: u32, which: Column) -> u32
+    requires { (n * 32 + 32 ≤ length rows.now) × (number_of which < 32) }
+    ensures { result ≡ column rows.now (number_of which) n }
 {
-    rows[address(rows.len() / 32, wide(n), f)]
+    rows[address(rows.len() / 32, n as usize, which)]
 }
 
-// Sets the cell of the row n in the column f.
-pub fn put(rows: &mut [u32], n: u32, f: usize, v: u32)
-    requires { (n * 32 + 32 ≤ length rows.old) × (f < 32) }
-    ensures { rows.new ≡ put rows.old n f v }
+// Sets the cell of the row n in a column.
+#[tactic(auto, unfolding(crate::specs::Rows::put))]
+pub fn put(rows: &mut [u32], n: u32, which: Column, v: u32)
+    requires { (n * 32 + 32 ≤ length rows.old) × (number_of which < 32) }
+    ensures { rows.new ≡ put rows.old n (number_of which) v }
 {
-    let at = address(rows.len() / 32, wide(n), f);
+    let at = address(rows.len() / 32, n as usize, which);
     rows[at] = v;
 }
