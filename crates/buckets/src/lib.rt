@@ -8,38 +8,26 @@ ghost use Rattle.buckets.specs.Chains.{chain_from};
 ghost use Rattle.buckets.specs.Buckets.{Room, Buckets};
 ghost use Rattle.buckets.specs.Finding.{found};
 ghost use Rattle.buckets.specs.Changes.{rows_with, buckets_with, rows_without, buckets_without, prior, Joinable, Reaches, OnChain};
-ghost use Rattle.buckets.specs.Testing.{Fits, Walks, presents};
+ghost use Rattle.buckets.specs.Testing.{Fits, Walks};
 
-use rows::{CHAIN, IS_PRESENT, PLACE, cell, put, wide};
+use places::count_in;
+use rows::{Column, IS_PRESENT, cell, put};
 use sizes::bucket_of;
 
-#[derive(Clone, Copy)]
-pub enum Found {
-    At(u32),
-    Nothing,
-}
-
-// What the test of a chain finds: how much of its budget is left, or that the chain is bad.
-#[derive(Clone, Copy)]
-enum Walked {
-    Rest(u32),
-    Bad,
-}
-
 // The present node with this rank.
-pub fn find(keys: &[u64], rows: &[u32], buckets: &[u32], cap: u32, rank: u64) -> Found
+pub fn find(keys: &[u64], rows: &[u32], buckets: &[u32], cap: u32, rank: u64) -> Option<u32>
     requires { Buckets keys.now rows.now buckets.now cap }
     ensures { result ≡ found keys.now rows.now buckets.now cap rank }
 {
     let b = bucket_of(rank, buckets.len());
     let mut n = buckets[b];
     while n < cap {
-        if keys[wide(n)] == rank {
-            return Found::At(n);
+        if keys[n as usize] == rank {
+            return Some(n);
         }
-        n = cell(rows, n, CHAIN);
+        n = cell(rows, n, Column::Chain);
     }
-    Found::Nothing
+    None
 }
 
 // The node n, with this rank, joins the chain of its bucket at the front.
@@ -49,7 +37,7 @@ pub fn add(rows: &mut [u32], buckets: &mut [u32], rank: u64, n: u32)
 {
     let b = bucket_of(rank, buckets.len());
     let first = buckets[b];
-    put(rows, n, CHAIN, first);
+    put(rows, n, Column::Chain, first);
     buckets[b] = n;
 }
 
@@ -60,7 +48,7 @@ fn before(rows: &[u32], cap: u32, first: u32, n: u32) -> u32
 {
     let mut p = first;
     loop {
-        let next = cell(rows, p, CHAIN);
+        let next = cell(rows, p, Column::Chain);
         if next == n {
             return p;
         }
@@ -75,12 +63,12 @@ pub fn drop(rows: &mut [u32], buckets: &mut [u32], cap: u32, rank: u64, n: u32)
 {
     let b = bucket_of(rank, buckets.len());
     let first = buckets[b];
-    let after = cell(rows, n, CHAIN);
+    let after = cell(rows, n, Column::Chain);
     if first == n {
         buckets[b] = after;
     } else {
         let p = before(rows, cap, first, n);
-        put(rows, p, CHAIN, after);
+        put(rows, p, Column::Chain, after);
     }
 }
 
@@ -88,30 +76,10 @@ pub fn drop(rows: &mut [u32], buckets: &mut [u32], cap: u32, rank: u64, n: u32)
 pub fn clear(buckets: &mut [u32], cap: u32)
     ensures { buckets.new ≡ replicate (length buckets.old) cap }
 {
-    let mut i = 0;
-    while i < buckets.len() {
-        buckets[i] = cap;
-        i += 1;
-    }
+    buckets.fill(cap);
 }
 
-// How many nodes are present.
-fn count_present(rows: &[u32], cap: u32) -> u32
-    requires { cap * 32 ≤ length rows.now }
-    ensures { result ≡ length (presents rows.now cap) }
-{
-    let mut total = 0;
-    let mut node = 0;
-    while node < cap {
-        if cell(rows, node, PLACE) == IS_PRESENT {
-            total += 1;
-        }
-        node += 1;
-    }
-    total
-}
-
-// Whether the chain from `first` on ends within `left` nodes, each present and of the bucket b.
+// What is left of `left` after a chain from `first` on, each of whose nodes is present and of the bucket b; nothing where there is no such chain within `left`.
 fn chain_ok(
     keys: &[u64],
     rows: &[u32],
@@ -120,56 +88,39 @@ fn chain_ok(
     b: usize,
     first: u32,
     left: u32,
-) -> Walked
+) -> Option<u32>
     requires { Room keys.now rows.now count cap }
     ensures { Walks cap (chains rows.now) (Fits keys.now rows.now count b) first left result }
 {
     let mut node = first;
     let mut rest = left;
     while node != cap {
-        if rest == 0 {
-            return Walked::Bad;
-        }
-        if node > cap {
-            return Walked::Bad;
-        }
-        if cell(rows, node, PLACE) != IS_PRESENT {
-            return Walked::Bad;
-        }
-        if bucket_of(keys[wide(node)], count) != b {
-            return Walked::Bad;
+        if rest == 0
+            || node > cap
+            || cell(rows, node, Column::Place) != IS_PRESENT
+            || bucket_of(keys[node as usize], count) != b
+        {
+            return None;
         }
         rest -= 1;
-        node = cell(rows, node, CHAIN);
+        node = cell(rows, node, Column::Chain);
     }
-    Walked::Rest(rest)
+    Some(rest)
 }
 
 // Whether the chains are those of the present nodes. One budget serves all chains: each present node is met once.
 pub fn buckets_ok(keys: &[u64], rows: &[u32], buckets: &[u32], cap: u32) -> bool
     ensures { Says result (Buckets keys.now rows.now buckets.now cap) }
 {
-    if keys.len() < wide(cap) {
+    if keys.len() < cap as usize || rows.len() < cap as usize * 32 || buckets.is_empty() {
         return false;
     }
-    if rows.len() < wide(cap) * 32 {
-        return false;
-    }
-    if buckets.len() == 0 {
-        return false;
-    }
-    let mut left = count_present(rows, cap);
-    let mut b = 0;
-    while b < buckets.len() {
-        match chain_ok(keys, rows, cap, buckets.len(), b, buckets[b], left) {
-            Walked::Rest(k) => {
-                left = k;
-            }
-            Walked::Bad => {
-                return false;
-            }
-        }
-        b += 1;
+    let mut left = count_in(rows, cap, IS_PRESENT);
+    for (b, first) in buckets.iter().enumerate() {
+        let Some(rest) = chain_ok(keys, rows, cap, buckets.len(), b, *first, left) else {
+            return false;
+        };
+        left = rest;
     }
     left == 0
 }

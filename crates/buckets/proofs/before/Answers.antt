@@ -1,14 +1,10 @@
 -- `buckets::before` meets its contract.
 use mathlib.Core.Path.{refl, sym, ◌∙◌}
-use native.Mathlib.Omega.{arith}
 use Rattle.buckets.proofs.Walks.{ahead, prior_next, prior_less, prior_more, prior_end}
 use Rattle.buckets.proofs.before.Goals as goal
 
 pub loop-cap-init : goal.loop-cap-init
 loop-cap-init c = (ahead _ _ _ c.requires.0.ends c.requires.0.met c.requires.1, refl)
-
-pub cell-next-requires : goal.cell-next-requires
-cell-next-requires c = omega arith
 
 pub returns-then-next-n : goal.returns-then-next-n
 returns-then-next-n c =
