@@ -3,7 +3,7 @@ use Rattle.std.specs.Prelude.{Ok, Err}
 use Rattle.model.specs.declared.Refusal.TheVariants.{NodeNotPending}
 use Rattle.model.specs.declared.Handed.TheVariants.{Freed, Held}
 use native.Mathlib.Omega.{arith}
-use Rattle.std.proofs.lemmas.Grind.{common_steps}
+use Rattle.std.proofs.lemmas.Bool.Decides.{nat_tests}
 use mathlib.Core.Path.{refl, sym, ◌∙◌}
 use Rattle.returns.proofs.HandCases.{handed, case_far, case_other, case_none, case_new, case_old}
 use Rattle.returns.proofs.hand_over.Goals as goal
@@ -29,11 +29,11 @@ returns-then-le c =
     let a = c.args in
     handed a.rows.now a.cap a.tickets.now a.ranges a.node.0 (Ok Freed)
     (case_new _ _ _ _ _ c.if-n-cap.false (sym c.cell.ensures ∙ c.if-cell-ne-IS_PENDING.false) c.if-ranges-eq0.false
-    (grind (arith, common_steps))) c.free_node-then-le.ensures refl
+    (grind (arith, nat_tests))) c.free_node-then-le.ensures refl
 
 pub returns : goal.returns
 returns c =
     let a = c.args in
     handed a.rows.now a.cap a.tickets.now a.ranges a.node.0 (Ok Held)
     (case_old _ _ _ _ _ c.if-n-cap.false (sym c.cell.ensures ∙ c.if-cell-ne-IS_PENDING.false) c.if-ranges-eq0.false
-    (grind (arith, common_steps))) c.retire.ensures refl
+    (grind (arith, nat_tests))) c.retire.ensures refl
