@@ -1,16 +1,15 @@
 -- Laws of the forms of a line: the code's tables, the number of a name, and the words behind a name one after another.
 -- Assumes nothing.
 use mathlib.Core.Path.{◌≡◌, refl, sym, ap, ◌∙◌}
-use mathlib.Core.Bool.{Bool, true, false, true≢false, cond, ◌&&◌}
+use mathlib.Core.Bool.{Bool, true, false, cond}
 use mathlib.Core.List.{List, [], ◌∷◌, ◌++◌, map}
 use denote.Ref.{Bor}
 use Prim.Native.Nat.{ℕ, suc, ◌+◌, ◌≤◌, ◌<◌}
 use native.Mathlib.Omega.{arith}
-use native.Mathlib.Nat.{le_antisymm}
 use native.Mathlib.Numerals.{add-one}
 use lib.Dec.{eqb, leb}
 use lib.ListN.{length, take, drop, get_or, set, length-set, drop_of_length-le, get_or-map, get_or-append}
-use lib.Seq.{length-take-le, drop-cons, take-suc-set, get_or-take}
+use lib.Seq.{length-take-le, drop-cons, take-suc-set}
 use borrow.Author.Tests.{leb-true}
 use lib.Pointwise.{pointwise}
 use Rattle.std.proofs.Common.{Ok, Err, nat_eq}

@@ -1,6 +1,6 @@
 -- Laws of the numbers of words: the digits one after another, and the range of each kind.
 -- Assumes nothing.
-use mathlib.Core.Path.{◌≡◌, refl, sym, ap, ◌∙◌}
+use mathlib.Core.Path.{◌≡◌, refl, sym, ◌∙◌}
 use mathlib.Core.Bool.{Bool, true, false, true≢false, cond, ◌&&◌}
 use mathlib.Core.List.{List, [], ◌∷◌}
 use Prim.Native.Nat.{ℕ, zero, suc, ◌+◌, ◌-◌, ◌*◌, ◌^◌, ◌≤◌, ◌<◌}
@@ -10,15 +10,15 @@ use lib.Dec.{eqb, leb}
 use lib.ListN.{length, get_or, take, drop}
 use lib.Pointwise.{pointwise}
 use lib.Seq.{drop-cons}
-use borrow.Author.Tests.{le-leb, lt-leb, leb-true, leb-false, lt-ltb, le-ltb, eq-eqb, ne_eqb}
-use Rattle.std.proofs.Common.{Option, Some, None, Result, Ok, Err, nat_eq}
+use borrow.Author.Tests.{le-leb, lt-leb, leb-true, leb-false, le-ltb}
+use Rattle.std.proofs.Common.{Some, None, Err, nat_eq}
 use Rattle.std.specs.List.{list_all}
 use Rattle.listing.specs.Decimals.{worth_from}
 use Rattle.transactions.specs.Calls.{any, small}
 use Rattle.notation.specs.declared.Kind.{Kind}
 use Rattle.notation.specs.declared.Kind.TheVariants.{Key, Coin, Small, Start}
 use Rattle.notation.specs.declared.Fault.TheVariants.{NotANumber, OutOfRange}
-use Rattle.notation.specs.Numerals.{all_digits, worth_of, integer_of, key_value, plain_value, value_as, digits_value, number}
+use Rattle.notation.specs.Numerals.{all_digits, worth_of, integer_of, value_as, digits_value, number}
 
 -- the digit at an index, and those behind it
 pub record Here (digits : List ℕ) (i : ℕ) : Type 0 where

@@ -1,13 +1,13 @@
 -- Laws of what an error shows: printable bytes, few of them; of the byte order mark; and of the byte that a fault leaves.
 -- Assumes nothing.
-use mathlib.Core.Path.{◌≡◌, refl, sym, ap, ◌∙◌}
-use mathlib.Core.Bool.{Bool, true, false, true≢false, cond, ◌&&◌}
+use mathlib.Core.Path.{◌≡◌, refl}
+use mathlib.Core.Bool.{Bool, true, false, cond, ◌&&◌}
 use mathlib.Core.List.{List, [], ◌∷◌, ◌++◌, map}
-use Prim.Native.Nat.{ℕ, zero, suc, ◌+◌, ◌-◌, ◌≤◌, ◌<◌}
+use Prim.Native.Nat.{ℕ, zero, suc, ◌+◌, ◌≤◌, ◌<◌}
 use native.Mathlib.Omega.{arith}
 use native.Mathlib.Numerals.{add-one}
 use lib.Dec.{leb}
-use lib.ListN.{length, take, drop, set, get_or, length-drop, length-take, length-append, length-map}
+use lib.ListN.{length, take, drop, set, get_or, length-append, length-map}
 use lib.Seq.{length-take-le, take_all, take-suc, drop-append_seam}
 use borrow.Author.Tests.{le-leb, lt-leb, leb-true, leb-false}
 use Rattle.lists.specs.Holds.{All}
@@ -15,15 +15,15 @@ use Rattle.lists.proofs.Holding.{all_every, all_append, all_map}
 use Rattle.groups.proofs.Standing.{stands_first}
 use Rattle.listing.specs.Puts.{Room, Put}
 use Rattle.listing.proofs.Putting.{put_wider, put_then, put_one}
-use Rattle.transactions.specs.declared.Reading.{Reading}
+use Rattle.std.proofs.Common.{Result, Err}
+use Rattle.transactions.specs.declared.Call.{Call}
+use Rattle.transactions.specs.declared.Halt.{Halt}
+use Rattle.transactions.specs.declared.Halt.TheVariants.{Stop}
 use Rattle.transactions.specs.Calls.{call_limit}
 use Rattle.transactions.specs.Readings.{CallRead}
 use Rattle.transactions.proofs.Sequencing.{reached_none}
 use Rattle.transactions.proofs.Trips.{call_read_same}
-use Rattle.notation.specs.Words.{part}
-use Rattle.notation.specs.Forms.{same}
-use Rattle.notation.specs.Showing.{Printable, shown_byte, shown, mark_length, NoCall}
-use Rattle.notation.proofs.Forming.{same_told}
+use Rattle.notation.specs.Showing.{Printable, shown_byte, shown, NoCall}
 
 byte_printable : (b : ℕ) → Printable (shown_byte b)
 byte_printable b = go (leb 32 b) (leb b 126) refl refl
@@ -96,9 +96,9 @@ no_call byte h k behind at more = record {
 }
 
 -- LAW: whatever is read at such a byte is that reading stops there
-pub stops_there : {byte : ℕ} → NoCall byte → (behind : List ℕ) (at : ℕ) (more : Bool) (r : Reading) → CallRead (byte ∷ behind) at more r → r ≡ Reading.Stop at
-stops_there {byte} n behind at more r c = call_read_same (byte ∷ behind) at more r (Reading.Stop at) c (n behind at more)
+pub stops_there : {byte : ℕ} → NoCall byte → (behind : List ℕ) (at : ℕ) (more : Bool) (r : Result (Call × ℕ) Halt) → CallRead (byte ∷ behind) at more r → r ≡ Err (Stop at)
+stops_there {byte} n behind at more r c = call_read_same (byte ∷ behind) at more r (Err (Stop at)) c (n behind at more)
 
 -- LAW: so a file that ends with it stops at it, where the calls in front of it end
-pub stops_behind : {byte : ℕ} → NoCall byte → (front behind : List ℕ) (more : Bool) (r : Reading) → CallRead (drop (length front) (front ++ (byte ∷ behind))) (length front) more r → r ≡ Reading.Stop (length front)
+pub stops_behind : {byte : ℕ} → NoCall byte → (front behind : List ℕ) (more : Bool) (r : Result (Call × ℕ) Halt) → CallRead (drop (length front) (front ++ (byte ∷ behind))) (length front) more r → r ≡ Err (Stop (length front))
 stops_behind {byte} n front behind more r c = stops_there n behind (length front) more r (rw (drop-append_seam front (byte ∷ behind)) at c)

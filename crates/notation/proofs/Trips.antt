@@ -14,7 +14,6 @@ use borrow.Author.Tests.{ne_eqb, le-leb, lt-ltb, not-true}
 use Rattle.lists.specs.Holds.{All}
 use Rattle.lists.specs.Filters.{empty, head_or}
 use Rattle.lists.proofs.Holding.{every, all_tested, all_imp}
-use Rattle.groups.specs.declared.Wrote.TheVariants.{Length}
 use Rattle.groups.specs.Buffers.{Writes}
 use Rattle.groups.specs.Signs.{turned}
 use Rattle.groups.proofs.Writing.{writes_length}
@@ -29,7 +28,7 @@ use Rattle.transactions.specs.Calls.{any, small, numbers_of, Typed, TypedHeader}
 use Rattle.transactions.proofs.Calling.{numbers_same, header_same}
 use Rattle.notation.specs.declared.Line.{Line}
 use Rattle.notation.specs.declared.Kind.{Kind}
-use Rattle.notation.specs.declared.Kind.TheVariants.{Key, Coin, Small, Start}
+use Rattle.notation.specs.declared.Kind.TheVariants.{Key, Coin, Small}
 use Rattle.notation.specs.declared.Misread.{Misread}
 use Rattle.notation.specs.Words.{blank, pieces, remark, words}
 use Rattle.notation.specs.Numerals.{all_digits, integer_of, value_as, digits_value, number}
@@ -214,15 +213,15 @@ line_same (Err m) (Ok (Line.Call c)) e = absurd (let z : ◌≡◌ {A = ℕ} 0 1
 line_same (Err m) (Err n) e = let q : m.fault ≡ n.fault = cc in let p : m.word ≡ n.word = cc in ap₂ {C = Result Line Misread} (λ f w. Err (record { fault = f; word = w })) q p
 
 -- what a writer wrote stands at the front
-written_front : {text before after : List ℕ} {len : ℕ} → Writes text before after (Length len) → take len after ≡ text
+written_front : {text before after : List ℕ} {len : ℕ} → Writes text before after (Ok len) → take len after ≡ text
 written_front {text} {before} {after} {len} w = let v = writes_length w in ap (take len) v.buffer ∙ take_at text (drop (length text) before) len (sym v.answer)
 
 -- LAW: what write_call wrote, read_line reads: the same call
-pub read_write_call : (call : Call) → Typed call → {before after : List ℕ} {len : ℕ} → Writes (text_of call) before after (Length len)
+pub read_write_call : (call : Call) → Typed call → {before after : List ℕ} {len : ℕ} → Writes (text_of call) before after (Ok len)
     → (r : Result Line Misread) → sense_of r ≡ sense (words (take len after)) → r ≡ Ok (Line.Call call)
 read_write_call call t w r e = line_same r (Ok (Line.Call call)) (e ∙ ap (λ s. sense (words s)) (written_front w) ∙ call_sense call t)
 
 -- LAW: the same of a header
-pub read_write_header : (header : Header) → TypedHeader header → {before after : List ℕ} {len : ℕ} → Writes (header_text header) before after (Length len)
+pub read_write_header : (header : Header) → TypedHeader header → {before after : List ℕ} {len : ℕ} → Writes (header_text header) before after (Ok len)
     → (r : Result Line Misread) → sense_of r ≡ sense (words (take len after)) → r ≡ Ok (Line.Header header)
 read_write_header header t w r e = line_same r (Ok (Line.Header header)) (e ∙ ap (λ s. sense (words s)) (written_front w) ∙ header_sense header t)

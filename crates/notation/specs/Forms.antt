@@ -101,8 +101,8 @@ missing kind = NumberMissing
 abbrev pub operands : List Kind → List (List ℕ) → Sense
 operands [] [] = numbers []
 operands [] (word ∷ words) = wrong TooManyWords 0
-operands (kind ∷ kinds) [] = wrong (missing kind) 0
-operands (kind ∷ kinds) (word ∷ words) = next (operand kind word) (operands kinds words)
+operands (kind ∷ rest) [] = wrong (missing kind) 0
+operands (kind ∷ rest) (word ∷ words) = next (operand kind word) (operands rest words)
 
 -- a line whose first word has this number
 abbrev pub formed : ℕ → List (List ℕ) → Sense

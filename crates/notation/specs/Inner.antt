@@ -18,5 +18,5 @@ operands_of code (Err misread) = wrong misread.fault misread.word
 -- numbers of these kinds: one below 2 ^ 32 is, and the word `start` counts as 0
 abbrev pub Ranged : List Kind → List ℕ → Type 0
 Ranged [] ns = Unit {0}
-Ranged (kind ∷ kinds) [] = ⊥
-Ranged (kind ∷ kinds) (n ∷ ns) = (kind ≡ Kind.Small → n ≤ small) × (kind ≡ Kind.Start → n ≡ 0) × Ranged kinds ns
+Ranged (kind ∷ rest) [] = ⊥
+Ranged (kind ∷ rest) (n ∷ ns) = (kind ≡ Kind.Small → n ≤ small) × (kind ≡ Kind.Start → n ≡ 0) × Ranged rest ns

@@ -16,7 +16,7 @@ ghost use Rattle.notation.specs.Texts.{text_of, header_text};
 ghost use Rattle.notation.specs.Showing.{shown, mark_length, fault_byte, NoCall};
 ghost use Rattle.notation.specs.Inner.{counted, Ranged};
 
-use groups::{Wrote, unturn};
+use groups::{TooShort, unturn};
 use sizes::{Node, Version};
 use transactions::{Call, Header};
 
@@ -77,7 +77,7 @@ pub fn fault_byte() -> u8
 }
 
 // Writes the word of a line with this number, as an error shows it, at the front of a lent buffer: of length 0 where there are fewer words.
-pub fn show_word(buffer: &mut [u8], line: &[u8], number: usize) -> Wrote
+pub fn show_word(buffer: &mut [u8], line: &[u8], number: usize) -> Result<usize, TooShort>
     ensures { Writes (shown (get_or (Words·words line.now) number [])) buffer.old buffer.new result }
 {
     let mut text = [0u8; 42];
@@ -132,17 +132,17 @@ pub fn read_line(line: &[u8]) -> Result<Line, Misread>
 }
 
 // Writes a text at the front of a lent buffer.
-fn write_text(buffer: &mut [u8], text: &[u8]) -> Wrote
+fn write_text(buffer: &mut [u8], text: &[u8]) -> Result<usize, TooShort>
     ensures { Writes text.now buffer.old buffer.new result }
 {
     if buffer.len() < text.len() {
-        return Wrote::Refused(1);
+        return Err(TooShort);
     }
-    Wrote::Length(listing::put_bytes(buffer, 0, text))
+    Ok(listing::put_bytes(buffer, 0, text))
 }
 
 // Writes the text of a call at the front of a lent buffer.
-pub fn write_call(buffer: &mut [u8], call: Call) -> Wrote
+pub fn write_call(buffer: &mut [u8], call: Call) -> Result<usize, TooShort>
     ensures { Writes (text_of call) buffer.old buffer.new result }
 {
     let mut text = [0u8; 80];
@@ -151,7 +151,7 @@ pub fn write_call(buffer: &mut [u8], call: Call) -> Wrote
 }
 
 // Writes the text of a header at the front of a lent buffer.
-pub fn write_header(buffer: &mut [u8], header: Header) -> Wrote
+pub fn write_header(buffer: &mut [u8], header: Header) -> Result<usize, TooShort>
     ensures { Writes (header_text header) buffer.old buffer.new result }
 {
     let mut text = [0u8; 80];

@@ -1,5 +1,5 @@
 -- `notation::forms::code_of` meets its contract.
-use mathlib.Core.Path.{sym, ap, ◌∙◌}
+use mathlib.Core.Path.{sym, ◌∙◌}
 use native.Mathlib.Omega.{arith}
 use Rattle.notation.proofs.Forming.{find_here, find_behind, find_none}
 use Rattle.notation.proofs.forms.code_of.Goals as goal

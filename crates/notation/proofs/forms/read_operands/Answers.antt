@@ -1,5 +1,5 @@
 -- `notation::forms::read_operands` meets its contract.
-use mathlib.Core.Path.{refl, sym, ap, ◌∙◌}
+use mathlib.Core.Path.{sym, ap, ◌∙◌}
 use mathlib.Core.List.{◌∷◌}
 use native.Mathlib.Omega.{arith}
 use lib.ListN.{length, length-set}
