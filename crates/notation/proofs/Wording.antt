@@ -130,22 +130,19 @@ module _ (line : List ℕ) (at start end : ℕ) (e : start ≡ at + run_of true 
     some = λ q. words_behind ∙ first_there q;
   }
 
--- the word that the code finds at a place: a run of bytes, which a `#` in front makes empty
-module _ (line : List ℕ) (start end : ℕ) (f : end ≡ start + run_of false (drop start line)) (l : end ≤ length line) where
-  pub run_empty : end ≤ start → end ≡ start + word_run (drop start line)
-  run_empty q = go (remark (drop start line))
+-- the word that the code finds at a place: none where a `#` stands there, else the run of bytes
+module _ (line : List ℕ) (start : ℕ) where
+  pub run_remark : start < length line → get_or line start 0 ≡ 35 → start ≡ start + word_run (drop start line)
+  run_remark h n = rw (drop-cons line start 0 h, eq-eqb (get_or line start 0) 35 n) (omega arith)
+
+  pub run_word : (end : ℕ) → (start < length line → get_or line start 0 ≡ 35 → ⊥) → end ≡ start + run_of false (drop start line) → end ≡ start + word_run (drop start line)
+  run_word end n f = go (dec_lt start (length line))
     where
-      go : (m : Bool) → end ≡ start + cond m 0 (run_of false (drop start line))
-      go true = omega arith
-      go false = f
-
-  pub run_remark : start < end → get_or line start 0 ≡ 35 → start ≡ start + word_run (drop start line)
-  run_remark q n = rw (drop-cons line start 0 (omega arith), eq-eqb (get_or line start 0) 35 n) (omega arith)
-
-  pub run_word : start < end → (get_or line start 0 ≡ 35 → ⊥) → end ≡ start + word_run (drop start line)
-  run_word q n =
-      let m : remark (drop start line) ≡ false = rw (drop-cons line start 0 (omega arith)) (ne_eqb (get_or line start 0) 35 n) in
-      rw m f
+      go : Dec (start < length line) → end ≡ start + word_run (drop start line)
+      go (yes h) =
+          let m : remark (drop start line) ≡ false = rw (drop-cons line start 0 h) (ne_eqb (get_or line start 0) 35 (n h)) in
+          rw m f
+      go (no h) = let e : drop start line ≡ [] = drop_of_length-le line (omega arith) in rw e (rw e at f)
 
 -- so many words are passed: what is left of them stands behind the place
 pub record Passed (line : List ℕ) (place count : ℕ) : Type 0 where
