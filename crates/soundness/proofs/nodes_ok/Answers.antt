@@ -36,8 +36,8 @@ loop-n-preserved c =
     (passed (rw c.link-next.ensures at c.order_ok.ensures) c.if-not-order_ok.false) in
     rw c.link-next.ensures
     (elim c.if-cell-eq-IS_RETIRED.branch [
-      then-cell-eq-IS_RETIRED w ↦ rw w.retired-is (on true (eq-eqb _ _ (sym c.cell.ensures ∙ w.if-cell-eq-IS_RETIRED.true)))
-    | else-cell-eq-IS_RETIRED w ↦ rw w.retired-is (on false (ne_eqb _ _ (λ e. w.if-cell-eq-IS_RETIRED.false (c.cell.ensures ∙ e))))
+      | then-cell-eq-IS_RETIRED w ↦ rw w.retired-is (on true (eq-eqb _ _ (sym c.cell.ensures ∙ w.if-cell-eq-IS_RETIRED.true)))
+      | else-cell-eq-IS_RETIRED w ↦ rw w.retired-is (on false (ne_eqb _ _ (λ e. w.if-cell-eq-IS_RETIRED.false (c.cell.ensures ∙ e))))
     ])
 
 pub overflow_add-linked-2 : goal.overflow_add-linked-2
