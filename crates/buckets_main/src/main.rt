@@ -4,9 +4,8 @@
 ghost use Rattle.std.specs.Prelude.{◌≡◌, true, length, replicate};
 ghost use Rattle.buckets_main.specs.Fresh.{Fresh};
 
-use buckets::Found;
 use check::expect;
-use rows::{IS_PENDING, IS_PRESENT, PLACE};
+use rows::{Column, IS_PENDING, IS_PRESENT};
 
 // A node joins, is found, leaves, and the chains are sound again.
 fn demo(keys: &mut [u64], rows: &mut [u32], buckets: &mut [u32], rank: u64) -> bool
@@ -16,19 +15,12 @@ fn demo(keys: &mut [u64], rows: &mut [u32], buckets: &mut [u32], rank: u64) -> b
     buckets::clear(buckets, 64);
     keys[3] = rank;
     buckets::add(rows, buckets, rank, 3);
-    rows::put(rows, 3, PLACE, IS_PRESENT);
-    match buckets::find(keys, rows, buckets, 64, rank) {
-        Found::At(n) => {
-            if n != 3 {
-                return false;
-            }
-        }
-        Found::Nothing => {
-            return false;
-        }
+    rows::put(rows, 3, Column::Place, IS_PRESENT);
+    if buckets::find(keys, rows, buckets, 64, rank) != Some(3) {
+        return false;
     }
     buckets::drop(rows, buckets, 64, rank, 3);
-    rows::put(rows, 3, PLACE, IS_PENDING);
+    rows::put(rows, 3, Column::Place, IS_PENDING);
     buckets::buckets_ok(keys, rows, buckets, 64)
 }
 

@@ -1,6 +1,9 @@
 -- An entry point's two ways: refused by the test, or the call made.
 -- Assumes nothing.
-use mathlib.Core.Path.{◌≡◌, refl, subst}
+use Rattle.std.specs.Prelude.{Result, Ok, Err, ⊤, is_ok, IsOkUnless}
+use Rattle.model.specs.declared.Refusal.{Refusal}
+use Rattle.model.specs.declared.Refusal.TheVariants.{NotSound}
+use mathlib.Core.Path.{◌≡◌, refl, sym, ap, subst}
 use mathlib.Core.Bool.{Bool, true, false}
 use Rattle.lists.specs.Tests.{Says}
 use Rattle.lists.proofs.Answers.{never}
@@ -31,3 +34,10 @@ module _ {X E : Type 0} {tables : X → Tables} {of : E → Answer} {c : Call} {
         answers = a;
         met = λ q. m;
       }
+
+-- LAW: the test of the tables refused: nothing changed, and the answer is its refusal
+pub refused_by : {X A : Type 0} {tables : X → Tables} {of : Result A Refusal → Answer} {c : Call} {before after : X} {given : Result A Refusal} {r : Result ⊤ Refusal} {e : Refusal}
+    → Says (is_ok r) (Sound (tables before)) → IsOkUnless r NotSound → r ≡ Err e → Outcome tables of c before before after (Err e) given (Err NotSound)
+refused_by {tables = tables} {of = of} {c = c} {before = before} {after = after} {given = given} {r = r} {e = e} s u w =
+    let f : e ≡ NotSound = rw w at u in
+    subst (λ (x : Refusal). Outcome tables of c before before after (Err x) given (Err NotSound)) (sym f) (refusing s (ap is_ok w))

@@ -1,7 +1,10 @@
 // The entry points: each tests the tables, refuses with 1 where they are not sound, and else makes the call. Nothing is asked of the memory that is lent.
 #![tactic(auto)]
 
-ghost use Rattle.std.specs.Prelude.{true, false, ◌≤◌};
+ghost use Rattle.std.specs.Prelude.{true, false, is_ok, IsOkUnless};
+ghost use Rattle.lists.specs.Tests.{Says};
+ghost use Rattle.model.specs.declared.Refusal.TheVariants.{NotSound};
+ghost use Rattle.tables.specs.Tables.{Sound};
 ghost use Rattle.rows.specs.Columns.{way};
 ghost use Rattle.soundness.specs.Tested.{lent};
 ghost use Rattle.calls.specs.Entries.{Looks, Nears, Tallies, Inserts, Removes, HandsOver, Sweeps, Closes, Opens, Steps, Ranges};
@@ -11,6 +14,23 @@ use rows::Direction;
 use sizes::{Node, Version};
 use soundness::sound;
 use tables::{Coordinator, Ticket};
+
+// Refuses tables that are not sound.
+fn tested(
+    keys: &[u64],
+    values: &[i64],
+    rows: &[u32],
+    buckets: &[u32],
+    tickets: &[Ticket; 16],
+    coordinator: Coordinator,
+) -> Result<(), Refusal>
+    ensures says { Says (is_ok result) (Sound (lent keys.now values.now rows.now buckets.now tickets.now coordinator)) }
+    ensures refusal { IsOkUnless result NotSound }
+{
+    sound(keys, values, rows, buckets, tickets, coordinator)
+        .then_some(())
+        .ok_or(Refusal::NotSound)
+}
 
 // Lookup: the value of the key.
 pub fn lookup(
@@ -24,9 +44,7 @@ pub fn lookup(
 ) -> Result<i64, Refusal>
     ensures { Looks (lent keys.now values.now rows.now buckets.now tickets.now coordinator) (lent keys.now values.now rows.now buckets.now tickets.now coordinator) key result }
 {
-    if !sound(keys, values, rows, buckets, tickets, coordinator) {
-        return Err(Refusal::NotSound);
-    }
+    tested(keys, values, rows, buckets, tickets, coordinator)?;
     finds::lookup(keys, values, rows, buckets, key)
 }
 
@@ -44,9 +62,7 @@ fn nearest(
 ) -> Result<i64, Refusal>
     ensures { Nears (lent keys.now values.now rows.now buckets.now tickets.now coordinator) (lent keys.now values.now rows.now buckets.now tickets.now coordinator) key (way d) at result }
 {
-    if !sound(keys, values, rows, buckets, tickets, coordinator) {
-        return Err(Refusal::NotSound);
-    }
+    tested(keys, values, rows, buckets, tickets, coordinator)?;
     finds::nearest(keys, rows, buckets, key, d, at)
 }
 
@@ -161,10 +177,11 @@ pub fn tally(
 ) -> Result<Tallied, Refusal>
     ensures { Tallies (lent keys.now values.now rows.now buckets.now tickets.now coordinator) (lent keys.now values.now rows.now buckets.now tickets.now coordinator) result }
 {
-    if !sound(keys, values, rows, buckets, tickets, coordinator) {
-        return Err(Refusal::NotSound);
+    if sound(keys, values, rows, buckets, tickets, coordinator) {
+        Ok(finds::tally(rows, keys.len() as u32, coordinator.due))
+    } else {
+        Err(Refusal::NotSound) // nothing is counted
     }
-    Ok(finds::tally(rows, keys.len() as u32, coordinator.due))
 }
 
 // Insert: the key with its value; the coin makes its height.
@@ -181,9 +198,7 @@ pub fn insert(
 ) -> Result<Node, Refusal>
     ensures { Inserts (lent keys.old values.old rows.old buckets.old tickets.now coordinator) (lent keys.new values.new rows.new buckets.new tickets.now coordinator) key value coin result }
 {
-    if !sound(keys, values, rows, buckets, tickets, coordinator) {
-        return Err(Refusal::NotSound);
-    }
+    tested(keys, values, rows, buckets, tickets, coordinator)?;
     let counter = coordinator.counter;
     changes::insert(keys, values, rows, buckets, counter, key, value, coin)
 }
@@ -200,9 +215,7 @@ pub fn remove(
 ) -> Result<Node, Refusal>
     ensures { Removes (lent keys.now values.now rows.old buckets.old tickets.now coordinator) (lent keys.now values.now rows.new buckets.new tickets.now coordinator) key result }
 {
-    if !sound(keys, values, rows, buckets, tickets, coordinator) {
-        return Err(Refusal::NotSound);
-    }
+    tested(keys, values, rows, buckets, tickets, coordinator)?;
     let counter = coordinator.counter;
     changes::remove(keys, rows, buckets, counter, key)
 }
@@ -219,9 +232,7 @@ pub fn hand_over(
 ) -> Result<Handed, Refusal>
     ensures { HandsOver (lent keys.now values.now rows.old buckets.now tickets.old coordinator) (lent keys.now values.now rows.new buckets.now tickets.new coordinator) node.0 result }
 {
-    if !sound(keys, values, rows, buckets, tickets, coordinator) {
-        return Err(Refusal::NotSound);
-    }
+    tested(keys, values, rows, buckets, tickets, coordinator)?;
     returns::hand_over(rows, keys.len() as u32, tickets, coordinator.ranges, node)
 }
 
@@ -236,10 +247,11 @@ pub fn sweep(
 ) -> Result<Swept, Refusal>
     ensures { Sweeps (lent keys.now values.now rows.old buckets.now tickets.now coordinator.old) (lent keys.now values.now rows.new buckets.now tickets.now coordinator.new) result }
 {
-    if !sound(keys, values, rows, buckets, tickets, *coordinator) {
-        return Err(Refusal::NotSound);
+    if sound(keys, values, rows, buckets, tickets, *coordinator) {
+        Ok(returns::sweep_one(rows, keys.len() as u32, coordinator))
+    } else {
+        Err(Refusal::NotSound) // nothing is freed
     }
-    Ok(returns::sweep_one(rows, keys.len() as u32, coordinator))
 }
 
 // Open: a range with these bounds; the answer is its version.
@@ -255,9 +267,7 @@ pub fn open_range(
 ) -> Result<Version, Refusal>
     ensures { Opens (lent keys.now values.now rows.now buckets.now tickets.old coordinator.old) (lent keys.now values.now rows.now buckets.now tickets.new coordinator.new) low high result }
 {
-    if !sound(keys, values, rows, buckets, tickets, *coordinator) {
-        return Err(Refusal::NotSound);
-    }
+    tested(keys, values, rows, buckets, tickets, *coordinator)?;
     ranges::open_range(keys, rows, buckets, tickets, coordinator, low, high)
 }
 
@@ -273,9 +283,7 @@ pub fn close_range(
 ) -> Result<u32, Refusal>
     ensures { Closes (lent keys.now values.now rows.now buckets.now tickets.old coordinator.old) (lent keys.now values.now rows.now buckets.now tickets.new coordinator.new) version.0 result }
 {
-    if !sound(keys, values, rows, buckets, tickets, *coordinator) {
-        return Err(Refusal::NotSound);
-    }
+    tested(keys, values, rows, buckets, tickets, *coordinator)?;
     ranges::close_range(tickets, coordinator, version)
 }
 
@@ -293,9 +301,7 @@ pub fn step_range(
 ) -> Result<Stepped, Refusal>
     ensures { Steps (lent keys.now values.now rows.now buckets.now tickets.old coordinator) out_keys.old out_values.old (lent keys.now values.now rows.now buckets.now tickets.new coordinator) out_keys.new out_values.new version.0 result }
 {
-    if !sound(keys, values, rows, buckets, tickets, coordinator) {
-        return Err(Refusal::NotSound);
-    }
+    tested(keys, values, rows, buckets, tickets, coordinator)?;
     ranges::step_range(
         keys,
         values,
@@ -323,9 +329,7 @@ pub fn fast_range(
 ) -> Result<u32, Refusal>
     ensures { Ranges (lent keys.now values.now rows.now buckets.now tickets.now coordinator) out_keys.old out_values.old out_keys.new out_values.new low high result }
 {
-    if !sound(keys, values, rows, buckets, tickets, coordinator) {
-        return Err(Refusal::NotSound);
-    }
+    tested(keys, values, rows, buckets, tickets, coordinator)?;
     let counter = coordinator.counter;
     ranges::fast_range(
         keys, values, rows, buckets, counter, low, high, out_keys, out_values,

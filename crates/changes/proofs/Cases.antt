@@ -1,8 +1,9 @@
 -- What insert and remove rely on, and their answers, as the code comes to them.
 -- Assumes nothing.
-use Rattle.std.specs.Prelude.{Ok, Err, Some, None, Option}
+use Rattle.std.specs.Prelude.{Bool, true, false, is_some, Ok, Err, Some, None, Option}
 use Rattle.model.specs.declared.Refusal.TheVariants.{KeyPresent, KeyAbsent, NoFreeNode}
 use mathlib.Core.Path.{◌≡◌, refl, sym, ap, ◌∙◌}
+use mathlib.Core.Bool.{true≢false}
 use mathlib.Core.List.{List, [], ◌∷◌}
 use Prim.Native.Nat.{ℕ, ◌≤◌, ◌<◌}
 use native.Mathlib.Omega.{arith}
@@ -104,3 +105,13 @@ module _ (keys rows buckets : List ℕ) (key : ℤ) where
 -- LAW: the node that the buckets find has the rank
 pub remove_holds : {r : Option ℕ} {keys rows buckets : List ℕ} {rank n : ℕ} → RemoveReady keys rows buckets → r ≡ found keys rows buckets (length keys) rank → r ≡ Some n → Holds keys rows (length keys) rank n
 remove_holds {keys = keys} {rows = rows} {buckets = buckets} {rank = rank} r e f = finds keys rows buckets (length keys) r.hashed rank (sym f ∙ e)
+
+-- ---- what is_some tells
+
+pub some_is : (r : Option ℕ) → is_some r ≡ true → (m : ℕ) × (r ≡ Some m)
+some_is (Some m) e = (m, refl)
+some_is None e = let z : ◌≡◌ {A = Bool} true false = sym e in absurd (true≢false z)
+
+pub none_is : (r : Option ℕ) → is_some r ≡ false → r ≡ None
+none_is (Some m) e = let z : ◌≡◌ {A = Bool} true false = e in absurd (true≢false z)
+none_is None e = refl

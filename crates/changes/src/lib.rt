@@ -98,11 +98,11 @@ pub fn remove(
 {
     let cap = keys.len() as u32;
     let rank = sizes::rank(key);
-    let Some(n) = buckets::find(keys, rows, buckets, cap, rank) else {
+    let Some(node) = buckets::find(keys, rows, buckets, cap, rank) else {
         return Err(Refusal::KeyAbsent);
     };
-    buckets::drop(rows, buckets, cap, rank, n);
-    put(rows, n, Column::Removed, counter.0);
-    places::make_pending(rows, cap, n);
-    Ok(Node(n))
+    buckets::drop(rows, buckets, cap, rank, node);
+    put(rows, node, Column::Removed, counter.0);
+    places::make_pending(rows, cap, node);
+    Ok(Node(node))
 }

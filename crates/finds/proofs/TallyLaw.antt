@@ -1,5 +1,6 @@
 -- Tally meets the model: the stored counts are those of the nodes.
 -- Assumes nothing.
+use Rattle.std.specs.Prelude.{Ok}
 use mathlib.Core.Path.{◌≡◌, refl, sym, ap, ◌∙◌}
 use mathlib.Core.List.{List}
 use Prim.Native.Nat.{ℕ, ◌+◌, ◌-◌}
@@ -50,7 +51,7 @@ module _ (t : Tables) (S : Sound t) where
   free_all = refl
 
   -- LAW: tally meets the model
-  pub tally_meets : Met t t tally (of_tallied (tally_answer t))
+  pub tally_meets : Met t t tally (of_tallied (Ok (tally_answer t)))
   tally_meets =
       met_same t tally _ S
       (tally_counts (view t) (present_count t.rows cap) (ring_count t.rows cap - t.coordinator.due) (length (free_of t.rows cap))

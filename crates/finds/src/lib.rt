@@ -14,7 +14,13 @@ use model::{Refusal, Tallied};
 use rows::{Column, Direction};
 
 // Lookup: the value of the key, or 4.
-pub fn lookup(keys: &[u64], values: &[i64], rows: &[u32], buckets: &[u32], key: i64) -> Result<i64, Refusal>
+pub fn lookup(
+    keys: &[u64],
+    values: &[i64],
+    rows: &[u32],
+    buckets: &[u32],
+    key: i64,
+) -> Result<i64, Refusal>
     requires { LookupReady keys.now values.now rows.now buckets.now }
     ensures { result ≡ value_of values.now (found keys.now rows.now buckets.now (length keys.now) (rank_of key)) }
 {
@@ -46,7 +52,14 @@ pub fn near(keys: &[u64], rows: &[u32], buckets: &[u32], rank: u64, d: Direction
 }
 
 // Ceil, floor, succ and pred: the nearest present key in the direction d, the key itself included where `at`, or 13.
-pub fn nearest(keys: &[u64], rows: &[u32], buckets: &[u32], key: i64, d: Direction, at: bool) -> Result<i64, Refusal>
+pub fn nearest(
+    keys: &[u64],
+    rows: &[u32],
+    buckets: &[u32],
+    key: i64,
+    d: Direction,
+    at: bool,
+) -> Result<i64, Refusal>
     requires { NearReady keys.now rows.now buckets.now }
     ensures { result ≡ nearest_key keys.now (near_of keys.now rows.now (length keys.now) (rank_of key) (way d) at) }
 {

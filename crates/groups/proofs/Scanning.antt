@@ -8,7 +8,7 @@ use native.Mathlib.Omega.{arith}
 use native.Mathlib.Numerals.{add-one}
 use native.Mathlib.Nat.{pow-suc, pow-le-pow_right, mul-le-mul, mod-eq_of_lt}
 use lib.ListN.{length, get_or, take, drop, take-append-drop, length-append}
-use lib.Seq.{take-suc, take_all, length-take-le}
+use lib.Seq.{take-suc, length-take-le}
 use Rattle.lists.specs.Holds.{All}
 use Rattle.lists.proofs.Holding.{all_append, all_at, all_left}
 use Rattle.groups.specs.Groups.{worth, High, Begun, Stands, Neither}
@@ -25,10 +25,6 @@ pub record Going (rest : List ℕ) (sum power count : ℕ) : Type 0 where
 pub going_none : (rest : List ℕ) → Going rest 0 1 0
 going_none rest = record { inside = omega arith; few = omega arith; powers = refl; sums = refl; high = tt }
 
--- the same of the bytes alone, whatever they are worth
-pub going_alone : {rest : List ℕ} {sum power count : ℕ} → Going rest sum power count → Going rest (worth (take count rest)) (128 ^ count) count
-going_alone g = record { inside = g.inside; few = g.few; powers = refl; sums = refl; high = g.high }
-
 -- what holds of the first k bytes holds of one among them
 among : (P : ℕ → Type 0) (f : List ℕ) (x : ℕ) (t : List ℕ) (k : ℕ) → length f < k → All P (take k (f ++ x ∷ t)) → P x
 among P [] x t zero h a = absurd (omega arith)
@@ -43,10 +39,6 @@ module _ {rest : List ℕ} {sum power count : ℕ} (g : Going rest sum power cou
 
   pub going_small : count ≢ 9 → power ≤ 2 ^ 56
   going_small n = rw g.powers (let h : count ≤ 8 = omega (arith, g.few) in pow-le-pow_right {n = 128} (omega arith) h)
-
-  -- LAW: the bytes end
-  pub going_out : length rest ≤ count → Begun rest
-  going_out out = record { high = rw (take_all count rest out) at g.high; short = omega (arith, g.few) }
 
 -- the byte behind those is b
 pub record Met (rest : List ℕ) (sum power count b : ℕ) : Type 0 where

@@ -1,30 +1,14 @@
 -- Laws of signed numbers as unsigned ones.
 -- Assumes nothing.
-use Prim.Native.Nat.{ℕ, suc, ◌+◌, ◌-◌, ◌*◌, ◌/◌, ◌%◌, ◌^◌, ◌<◌}
+use Prim.Native.Nat.{ℕ, suc, ◌-◌, ◌*◌, ◌%◌, ◌^◌, ◌<◌}
 use mathlib.Core.Path.{◌≡◌, ap}
-use mathlib.Core.Logic.{◌≢◌}
 use native.Mathlib.Omega.{arith}
 use native.Mathlib.Decide.{ℕ_discrete}
 use lib.IntN.{ℤ, pos, negsuc}
 use mir.Syntax.{w64}
-use mir.Val.{SFits, to_z}
-use mir.ValLaws.{to_z_pos, to_z-neg}
+use mir.Val.{SFits}
 use borrow.Author.Tests.{eq-eqb, ne_eqb}
 use Rattle.groups.specs.Signs.{turned, unturned}
-
-pub turn_neg : (n : ℕ) → n * 2 + 1 ≡ turned (negsuc n)
-turn_neg n = omega arith
-
-pub turn_pos : (n : ℕ) → n * 2 ≡ turned (pos n)
-turn_pos n = omega arith
-
-pub unturn_even : (n : ℕ) → n < 2 ^ 64 → n % 2 ≡ 0 → to_z w64 (n / 2) ≡ unturned n
-unturn_even n f e = rw (eq-eqb (n % 2) 0 e) (to_z_pos w64 (n / 2) (omega arith))
-
-pub unturn_odd : (n : ℕ) → n < 2 ^ 64 → n % 2 ≢ 0 → to_z w64 (18446744073709551615 - n / 2) ≡ unturned n
-unturn_odd n f e =
-    let q : 18446744073709551615 - n / 2 ≡ 18446744073709551616 - suc (n / 2) = omega arith in
-    rw (q, ne_eqb (n % 2) 0 e) (to_z-neg w64 (n / 2) (omega arith))
 
 -- LAW: unturned undoes turned, on every number
 pub unturned_turned : (z : ℤ) → unturned (turned z) ≡ z

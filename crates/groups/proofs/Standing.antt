@@ -10,8 +10,9 @@ use lib.ListN.{length, get_or, take, drop, take-append-drop, length-append}
 use lib.Seq.{length-take-le}
 use Rattle.lists.specs.Holds.{All}
 use Rattle.lists.proofs.Holding.{all_at}
-use Rattle.groups.specs.declared.Number.{Number}
-use Rattle.groups.specs.declared.Number.TheVariants.{Of, CutOff, Malformed}
+use Rattle.std.specs.Prelude.{Result, Ok, Err}
+use Rattle.groups.specs.declared.Unread.{Unread}
+use Rattle.groups.specs.declared.Unread.TheVariants.{CutOff, Malformed}
 use Rattle.groups.specs.Groups.{worth, High, Written, Begun, Stands, Reads}
 
 pub worth_lt : (bs : List ℕ) → worth bs < 128 ^ length bs
@@ -65,16 +66,16 @@ stands_begun {rest} {n} {len} w b =
     omega (arith, h.set, w.written.low)
 
 -- LAW: two answers that reading may give are equal
-pub reads_same : (rest : List ℕ) (a b : Number) → Reads rest a → Reads rest b → a ≡ b
-reads_same rest (Of n k) (Of m l) v w = let e = stands_same v w in let f : n ≡ m = e.0 in let g : k ≡ l = e.1 in cc
-reads_same rest (Of n k) CutOff v w = absurd (stands_begun v w)
-reads_same rest (Of n k) Malformed v w = absurd (w.none n k v)
-reads_same rest CutOff (Of m l) v w = absurd (stands_begun w v)
-reads_same rest CutOff CutOff v w = refl
-reads_same rest CutOff Malformed v w = absurd (w.over v)
-reads_same rest Malformed (Of m l) v w = absurd (v.none m l w)
-reads_same rest Malformed CutOff v w = absurd (v.over w)
-reads_same rest Malformed Malformed v w = refl
+pub reads_same : (rest : List ℕ) (a b : Result (ℕ × ℕ) Unread) → Reads rest a → Reads rest b → a ≡ b
+reads_same rest (Ok (n, k)) (Ok (m, l)) v w = let e = stands_same v w in let f : n ≡ m = e.0 in let g : k ≡ l = e.1 in cc
+reads_same rest (Ok (n, k)) (Err CutOff) v w = absurd (stands_begun v w)
+reads_same rest (Ok (n, k)) (Err Malformed) v w = absurd (w.none n k v)
+reads_same rest (Err CutOff) (Ok (m, l)) v w = absurd (stands_begun w v)
+reads_same rest (Err CutOff) (Err CutOff) v w = refl
+reads_same rest (Err CutOff) (Err Malformed) v w = absurd (w.over v)
+reads_same rest (Err Malformed) (Ok (m, l)) v w = absurd (v.none m l w)
+reads_same rest (Err Malformed) (Err CutOff) v w = absurd (v.over w)
+reads_same rest (Err Malformed) (Err Malformed) v w = refl
 
 -- a form that is not the shortest one of one byte is worth 1 and more
 worth_pos : (f : List ℕ) (l : ℕ) → l < 128 → l ≢ 0 → 1 ≤ worth (f ++ l ∷ [])

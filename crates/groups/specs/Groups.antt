@@ -1,9 +1,9 @@
 -- Numbers as groups of seven bits: lowest group first, the high bit set on every byte but the last, shortest form only, at most ten bytes, value below 2 ^ 64.
 -- Assumes nothing.
-use Rattle.std.specs.Prelude.{ℕ, zero, suc, ◌+◌, ◌*◌, ◌/◌, ◌%◌, ◌^◌, ◌≤◌, ◌<◌, ◌≡◌, ◌⊎◌, ◌≢◌, cond, List, [], ◌∷◌, ◌++◌, length, take, ltb}
+use Rattle.std.specs.Prelude.{ℕ, zero, suc, ◌+◌, ◌*◌, ◌/◌, ◌%◌, ◌^◌, ◌≤◌, ◌<◌, ◌≡◌, ◌⊎◌, ◌≢◌, cond, List, [], ◌∷◌, ◌++◌, length, take, ltb, Result, Ok, Err}
 use Rattle.lists.specs.Holds.{All}
-use Rattle.groups.specs.declared.Number.{Number}
-use Rattle.groups.specs.declared.Number.TheVariants.{Of, CutOff, Malformed}
+use Rattle.groups.specs.declared.Unread.{Unread}
+use Rattle.groups.specs.declared.Unread.TheVariants.{CutOff, Malformed}
 
 -- the value of bytes: lowest group first, the high bit taken off
 abbrev pub worth : List ℕ → ℕ
@@ -48,10 +48,10 @@ pub record Neither (rest : List ℕ) : Type 0 where
   pub over : Begun rest → ⊥
 
 -- what reading a number answers of the bytes left
-abbrev pub Reads : List ℕ → Number → Type 0
-Reads rest (Of n len) = Stands rest n len
-Reads rest CutOff = Begun rest
-Reads rest Malformed = Neither rest
+abbrev pub Reads : List ℕ → Result (ℕ × ℕ) Unread → Type 0
+Reads rest (Ok (n, len)) = Stands rest n len
+Reads rest (Err CutOff) = Begun rest
+Reads rest (Err Malformed) = Neither rest
 
 -- the bytes of a number, with n as more than enough fuel
 abbrev pub groups : ℕ → ℕ → List ℕ

@@ -8,77 +8,71 @@ ghost use Rattle.groups.specs.Groups.{High, Begun, Led, Reads, groups_of};
 ghost use Rattle.groups.specs.Buffers.{Writes};
 ghost use Rattle.groups.specs.Signs.{turned, unturned};
 
-// What is written at a place: a number and its length in bytes, only the beginning of a number where the bytes end, or neither.
-#[derive(Clone, Copy)]
-pub enum Number {
-    Of(u64, usize),
+// Why no number is read: the bytes left are only the beginning of one, or neither hold nor begin one.
+#[derive(Clone, Copy, Debug, PartialEq, Eq)]
+pub enum Unread {
     CutOff,
     Malformed,
 }
 
-// What a writer answers: the length of what it wrote, or 1 where the lent buffer is too short.
-#[derive(Clone, Copy)]
-pub enum Wrote {
-    Length(usize),
-    Refused(u32),
-}
+// The lent buffer is too short for what is to be written: refusal 1 for hosts.
+#[derive(Clone, Copy, Debug, PartialEq, Eq)]
+pub struct TooShort;
 
-pub fn wide(byte: u8) -> u64
-    ensures { result ≡ byte }
+// The bytes from this place on, none where it lies behind the end.
+fn left(bytes: &[u8], at: usize) -> &[u8]
+    ensures { result.now ≡ drop at bytes.now }
 {
-    byte as u64
+    bytes.get(at..).unwrap_or(&[])
 }
 
 // Reads the number that begins at this place. Where ten bytes are left, numbers of one to three bytes and of nine or ten are read without a loop.
-pub fn read(bytes: &[u8], at: usize) -> Number
+pub fn read(bytes: &[u8], at: usize) -> Result<(u64, usize), Unread>
     ensures { Reads (drop at bytes.now) result }
 {
-    if bytes.len() < 10 {
+    if bytes.len() < 10 || bytes.len() - 10 < at {
         return read_each(bytes, at);
     }
-    if bytes.len() - 10 < at {
-        return read_each(bytes, at);
-    }
-    let b0 = wide(bytes[at]);
+    let b0 = u64::from(bytes[at]);
     if b0 < 128 {
-        return Number::Of(b0, 1);
+        return Ok((b0, 1));
     }
-    let b1 = wide(bytes[at + 1]);
+    let b1 = u64::from(bytes[at + 1]);
     if b1 < 128 {
         if b1 == 0 {
-            return Number::Malformed;
+            return Err(Unread::Malformed);
         }
-        return Number::Of(b0 - 128 + b1 * 128, 2);
+        return Ok((b0 - 128 + b1 * 128, 2));
     }
-    let b2 = wide(bytes[at + 2]);
+    let b2 = u64::from(bytes[at + 2]);
     if b2 < 128 {
         if b2 == 0 {
-            return Number::Malformed;
+            return Err(Unread::Malformed);
         }
-        return Number::Of(b0 - 128 + (b1 - 128) * 128 + b2 * 16384, 3);
+        return Ok((b0 - 128 + (b1 - 128) * 128 + b2 * 16384, 3));
     }
     read_long(bytes, at, b0 - 128 + (b1 - 128) * 128 + (b2 - 128) * 16384)
 }
 
 // Reads on behind three bytes that are worth this: a number of nine or ten bytes at once, with no branch between the two lengths.
-fn read_long(bytes: &[u8], at: usize, first: u64) -> Number
+fn read_long(bytes: &[u8], at: usize, first: u64) -> Result<(u64, usize), Unread>
     requires { (at + 10 ≤ length bytes.now) × Led (drop at bytes.now) first }
     ensures { Reads (drop at bytes.now) result }
 {
-    let b3 = wide(bytes[at + 3]);
-    let b4 = wide(bytes[at + 4]);
-    let b5 = wide(bytes[at + 5]);
-    let b6 = wide(bytes[at + 6]);
-    let b7 = wide(bytes[at + 7]);
-    let b8 = wide(bytes[at + 8]);
-    let b9 = wide(bytes[at + 9]);
+    let b3 = u64::from(bytes[at + 3]);
+    let b4 = u64::from(bytes[at + 4]);
+    let b5 = u64::from(bytes[at + 5]);
+    let b6 = u64::from(bytes[at + 6]);
+    let b7 = u64::from(bytes[at + 7]);
+    let b8 = u64::from(bytes[at + 8]);
+    let b9 = u64::from(bytes[at + 9]);
     if b3 >= 128 && b4 >= 128 && b5 >= 128 && b6 >= 128 && b7 >= 128 && b8 > 0 {
         let top = b8 / 128;
         if top * b9 != top {
-            return Number::Malformed;
+            return Err(Unread::Malformed);
         }
         let n = join_groups(first, b3, b4, b5, b6, b7, b8);
-        return Number::Of(n, (9 + top) as usize);
+        return Ok((n, (9 + top) as usize));
     }
     read_each(bytes, at)
 }
@@ -94,57 +88,39 @@ fn join_groups(first: u64, b3: u64, b4: u64, b5: u64, b6: u64, b7: u64, b8: u64)
 }
 
 // Reads the number that begins at this place, one byte after another.
-fn read_each(bytes: &[u8], at: usize) -> Number
+fn read_each(bytes: &[u8], at: usize) -> Result<(u64, usize), Unread>
     ensures { Reads (drop at bytes.now) result }
 {
     let mut sum: u64 = 0;
     let mut power: u64 = 1;
-    let mut count: usize = 0;
-    let mut place = at;
-    while place < bytes.len() {
-        let byte = wide(bytes[place]);
-        if byte < 128 {
-            if count == 0 {
-                return Number::Of(byte, 1);
+    for (count, byte) in left(bytes, at).iter().enumerate() {
+        let byte = u64::from(*byte);
+        if byte >= 128 {
+            if count == 9 {
+                return Err(Unread::Malformed);
             }
-            if byte == 0 {
-                return Number::Malformed;
-            }
-            // Only a tenth byte can make a number too great.
-            if count == 9 && 1 < byte {
-                return Number::Malformed;
-            }
-            return Number::Of(sum + byte * power, count + 1);
+            sum += (byte - 128) * power;
+            power *= 128;
+            continue;
         }
-        if count == 9 {
-            return Number::Malformed;
+        // A number in its shortest form does not end in 0 behind other bytes.
+        if byte == 0 && count > 0 {
+            return Err(Unread::Malformed);
         }
-        sum += (byte - 128) * power;
-        power *= 128;
-        count += 1;
-        place += 1;
+        // Only a tenth byte can make a number too great.
+        if count == 9 && byte > 1 {
+            return Err(Unread::Malformed);
+        }
+        return Ok((sum + byte * power, count + 1));
     }
-    Number::CutOff
+    Err(Unread::CutOff)
 }
 
 // Whether the bytes left from this place on are only the beginning of a number.
 pub fn begun(bytes: &[u8], at: usize) -> bool
     ensures { Says result (Begun (drop at bytes.now)) }
 {
-    let mut count: usize = 0;
-    let mut place = at;
-    while place < bytes.len() {
-        let byte = wide(bytes[place]);
-        if byte < 128 {
-            return false;
-        }
-        if 9 <= count {
-            return false;
-        }
-        count += 1;
-        place += 1;
-    }
-    true
+    matches!(read(bytes, at), Err(Unread::CutOff))
 }
 
 // How many bytes a number takes.
@@ -154,7 +130,7 @@ pub fn length_of(n: u64) -> usize
     let mut rest = n;
     let mut count = 1;
     while 128 <= rest {
-        rest = rest / 128;
+        rest /= 128;
         count += 1;
     }
     count
@@ -169,7 +145,7 @@ pub fn put(buffer: &mut [u8], at: usize, n: u64) -> usize
     let mut place = at;
     while 128 <= left {
         buffer[place] = (left % 128 + 128) as u8;
-        left = left / 128;
+        left /= 128;
         place += 1;
     }
     buffer[place] = left as u8;
@@ -177,13 +153,13 @@ pub fn put(buffer: &mut [u8], at: usize, n: u64) -> usize
 }
 
 // Writes a number at the front of a lent buffer.
-pub fn write(buffer: &mut [u8], n: u64) -> Wrote
+pub fn write(buffer: &mut [u8], n: u64) -> Result<usize, TooShort>
     ensures { Writes (groups_of n) buffer.old buffer.new result }
 {
     if buffer.len() < length_of(n) {
-        return Wrote::Refused(1);
+        return Err(TooShort);
     }
-    Wrote::Length(put(buffer, 0, n))
+    Ok(put(buffer, 0, n))
 }
 
 // A signed number as an unsigned one: 2 * k, or -2 * k - 1 where k is negative, which is 2 * !k + 1.

@@ -2,13 +2,14 @@
 -- Assumes nothing.
 use mathlib.Core.Path.{◌≡◌, refl, sym, ap, ◌∙◌}
 use mathlib.Core.List.{List, [], ◌∷◌, ◌++◌, append_assoc, append-nil}
-use Prim.Native.Nat.{ℕ, zero, suc, ◌+◌, ◌*◌, ◌^◌, ◌≤◌, ◌<◌}
+use Prim.Native.Nat.{ℕ, zero, suc, ◌+◌, ◌*◌, ◌^◌, ◌≤◌, ◌<◌, ◌-◌, min}
 use native.Mathlib.Omega.{arith}
-use native.Mathlib.Nat.{add_assoc}
 use native.Mathlib.Numerals.{add-one}
 use lib.ListN.{length, take, set, get_or, length-append}
-use lib.Seq.{take_all, take-suc}
-use lib.IntN.{ℤ, pos, negsuc}
+use borrow.Rule.Slice.PartMut.{put_mid}
+use Rattle.lists.specs.Buffers.{written}
+use lib.Seq.{take-suc, drop-drop}
+use lib.IntN.{ℤ, pos, negsuc, nat_abs}
 use mir.Syntax.{w64}
 use lib.Signed.{mag}
 use mir.Val.{SFits, to_z, of_z}
@@ -45,17 +46,12 @@ put_then {out} {at} {m} {n} {s} {t} {mid} {last} {here} {next} h p q =
 pub put_shown_lem : {out : List ℕ} {at m : ℕ} {s last : List ℕ} {next : ℕ} → Room out at m → Put out at m s last next → take next last ≡ take at out ++ s
 put_shown_lem {out} {at} {m} {s} h p = rw (p.cells, p.behind) (written_front out at s (omega arith))
 
--- LAW: the next byte of a word is put
-pub put_next : (out word mid : List ℕ) (at i : ℕ) → Room out at (length word) → length mid ≡ length out → i < length word
-    → Put out at i (take i word) mid (at + i) → Put out at (i + 1) (take (i + 1) word) (set mid (at + i) (get_or word i 0)) (at + (i + 1))
-put_next out word mid at i h l k p =
-    let q = put_then {m = i} (omega arith) p (put_one mid (at + i) (get_or word i 0) (omega arith)) in
-    rw (add-one, take-suc word i 0 k, ← add-one, ← add_assoc) q
-
 -- LAW: a whole word is put
-pub put_whole : (out word last : List ℕ) (at i : ℕ) → i ≤ length word → length word ≤ i → Put out at i (take i word) last (at + i)
-    → Put out at (length word) word last (at + length word)
-put_whole out word last at i h k p = let e : i ≡ length word = omega arith in rw e at (rw (take_all i word k) at p)
+pub put_copied : (out word part : List ℕ) (at : ℕ) → part ≡ word → Put out at (length word) word (put_mid at (at + length word - at) out part) (at + length word)
+unfolding written
+put_copied out word part at e =
+    let k : at + length word - at ≡ length word = omega arith in
+    record { cells = rw (e, k, drop-drop); behind = refl; within = omega arith }
 
 -- LAW: the text of an integer by its sign
 pub integer_neg : {z : ℤ} {n : ℕ} → z ≡ negsuc n → integer z ≡ 45 ∷ digits (n + 1)
@@ -65,6 +61,13 @@ integer_neg {z} {n} e = rw (e, add-one)
 pub integer_pos : {z : ℤ} {n : ℕ} → z ≡ pos n → integer z ≡ digits n
 unfolding integer
 integer_pos e = rw e
+
+-- LAW: the magnitude by the sign
+pub magnitude_neg : {z : ℤ} {m n : ℕ} → SFits w64 z → z ≡ negsuc n → m ≡ nat_abs (to_z w64 (of_z w64 z)) → m ≡ n + 1
+magnitude_neg {z} {m} {n} f e h = rw (to_z-of_z w64 z f, e) at h ∙ omega arith
+
+pub magnitude_pos : {z : ℤ} {m n : ℕ} → SFits w64 z → z ≡ pos n → m ≡ nat_abs (to_z w64 (of_z w64 z)) → m ≡ n
+magnitude_pos {z} f e h = rw (to_z-of_z w64 z f, e) at h
 
 -- LAW: `-` and the magnitude are the text of a negative integer
 pub put_negative : {z : ℤ} {n : ℕ} {out mid last : List ℕ} {at here next : ℕ} → z ≡ negsuc n → Room out at (length (integer z))
@@ -87,23 +90,23 @@ spaced_append (y ∷ ys) zs = rw (spaced_append ys zs) (sym (append_assoc (32 �
 pub spaced_one : (z : ℤ) → spaced (z ∷ []) ≡ 32 ∷ integer z
 spaced_one z = append-nil (32 ∷ integer z)
 
--- an element of a slice of 64-bit integers, as a call hands it over
-abbrev handed : List ℤ → ℕ → ℤ
-handed zs i = to_z w64 (of_z w64 (get_or zs i (pos 0)))
+-- an integer of 64 bits, as a call hands it over
+abbrev handed : ℤ → ℤ
+handed z = to_z w64 (of_z w64 z)
 
--- it is small, so it is the element itself
-abbrev Small : List ℤ → ℕ → Type 0
-Small zs i = mag (get_or zs i (pos 0)) < 2 ^ 63
+-- it is small, so it is the integer itself
+abbrev Small : ℤ → Type 0
+Small z = mag z < 2 ^ 63
 
-itself : (zs : List ℤ) (i : ℕ) → Small zs i → handed zs i ≡ get_or zs i (pos 0)
-itself zs i h = to_z-of_z w64 (get_or zs i (pos 0)) (record { sfits = h })
+itself : (z : ℤ) → Small z → handed z ≡ z
+itself z h = to_z-of_z w64 z (record { sfits = h })
 
 -- LAW: the next number is put
 pub put_number : (zs : List ℤ) (i : ℕ) {out mid last : List ℕ} {at here next : ℕ} → Room out at (longest i) → i < length zs
-    → Put out at (longest i) (spaced (take i zs)) mid here → Small zs i → Put mid here (longest 1) (32 ∷ integer (handed zs i)) last next
+    → Put out at (longest i) (spaced (take i zs)) mid here → Small (get_or zs i (pos 0)) → Put mid here (longest 1) (32 ∷ integer (handed (get_or zs i (pos 0)))) last next
     → Put out at (longest (i + 1)) (spaced (take (i + 1) zs)) last next
 put_number zs i h k p m q =
-    let r = rw (itself zs i m) at q in
+    let r = rw (itself (get_or zs i (pos 0)) m) at q in
     rw (add-one i, take-suc zs i (pos 0) k, spaced_append, spaced_one) (put_wider (omega arith) (put_then h p r))
 
 pub pairs_snoc : (ks vs : List ℤ) (i : ℕ) → i < length ks → i < length vs
@@ -114,13 +117,26 @@ pairs_snoc (k ∷ ks) (v ∷ vs) zero h l = refl
 pairs_snoc (k ∷ ks) (v ∷ vs) (suc i) h l = ap {B = List ℤ} (λ r. k ∷ v ∷ r) (pairs_snoc ks vs i (omega arith) (omega arith))
 
 -- LAW: the next pair is put
-pub put_pair : (ks vs : List ℤ) (i : ℕ) {out one two last : List ℕ} {at here there next : ℕ} → Room out at (longest (2 * i + 2))
-    → i < length ks → i < length vs → Put out at (longest (2 * i)) (spaced (paired (take i ks) (take i vs))) one here
-    → Small ks i → Put one here (longest 1) (32 ∷ integer (handed ks i)) two there
-    → Small vs i → Put two there (longest 1) (32 ∷ integer (handed vs i)) last next
-    → Put out at (longest (2 * (i + 1))) (spaced (paired (take (i + 1) ks) (take (i + 1) vs))) last next
-put_pair ks vs i h k l p m q n r =
-    let key = rw (itself ks i m) at q in
-    let value = rw (itself vs i n) at r in
-    rw (add-one i, pairs_snoc ks vs i k l, spaced_append, spaced_one (get_or vs i (pos 0)), ← append_assoc (spaced (paired (take i ks) (take i vs))) (32 ∷ integer (get_or ks i (pos 0))) (32 ∷ integer (get_or vs i (pos 0))))
+pub put_pair : (ks vs : List ℤ) (i j : ℕ) {k v : ℤ} {out one two last : List ℕ} {at here there next : ℕ} → j ≡ suc i → Room out at (longest (2 * i + 2))
+    → (i < length ks) × (i < length vs) × ((d : ℤ) → k ≡ get_or ks i d) × ((d : ℤ) → v ≡ get_or vs i d)
+    → Put out at (longest (2 * i)) (spaced (paired (take i ks) (take i vs))) one here
+    → Small k → Put one here (longest 1) (32 ∷ integer (handed k)) two there
+    → Small v → Put two there (longest 1) (32 ∷ integer (handed v)) last next
+    → Put out at (longest (2 * j)) (spaced (paired (take j ks) (take j vs))) last next
+put_pair ks vs i j {k} {v} e h t p m q n r =
+    let key = rw (itself k m) at q in
+    let value = rw (itself v n) at r in
+    rw (e, pairs_snoc ks vs i t.0 t.1, ← t.2 (pos 0), ← t.3 (pos 0), spaced_append, spaced_one v, ← append_assoc (spaced (paired (take i ks) (take i vs))) (32 ∷ integer k) (32 ∷ integer v))
     (put_wider (omega arith) (put_then (omega arith) (put_then (omega arith) p key) value))
+
+-- LAW: as many pairs as there are, are all of them
+pub paired_all : (ks vs : List ℤ) (n : ℕ) → n ≡ min (length ks) (length vs) → paired (take n ks) (take n vs) ≡ paired ks vs
+paired_all [] vs n h = let e : n ≡ 0 = omega arith in rw e
+paired_all (k ∷ ks) [] n h = let e : n ≡ 0 = omega arith in rw e
+paired_all (k ∷ ks) (v ∷ vs) zero h = absurd (omega arith)
+paired_all (k ∷ ks) (v ∷ vs) (suc n) h = ap {B = List ℤ} (λ r. k ∷ v ∷ r) (paired_all ks vs n (omega arith))
+
+pub put_all_pairs : (ks vs : List ℤ) {n : ℕ} {out last : List ℕ} {at next : ℕ} → n ≡ min (length ks) (length vs)
+    → Put out at (longest (2 * n)) (spaced (paired (take n ks) (take n vs))) last next
+    → Put out at (longest (2 * length ks)) (spaced (paired ks vs)) last next
+put_all_pairs ks vs {n} e p = rw (← paired_all ks vs n e) (put_wider (omega arith) p)

@@ -1,7 +1,7 @@
 // The lines that the program `schedule` prints, put as text into a lent buffer. Each function answers the place behind its text.
 #![tactic(auto)]
 
-ghost use Rattle.std.specs.Prelude.{◌≡◌, [], ◌∷◌, ◌++◌, ◌+◌, ◌*◌, ◌%◌, ◌≤◌, length, take, pos};
+ghost use Rattle.std.specs.Prelude.{◌≡◌, [], ◌∷◌, ◌++◌, ◌+◌, ◌*◌, ◌%◌, length, pos};
 ghost use Rattle.listing.specs.Decimals.{digit, digits, integer};
 ghost use Rattle.listing.specs.Lines.{spaced, line, line_after, paired};
 ghost use Rattle.listing.specs.Puts.{Room, longest, Put};
@@ -13,7 +13,7 @@ fn digit_count(n: u64) -> usize
     let mut rest = n;
     let mut count: usize = 1;
     while 9 < rest {
-        rest = rest / 10;
+        rest /= 10;
         count += 1;
     }
     count
@@ -23,7 +23,7 @@ fn digit_count(n: u64) -> usize
 fn last_digit(n: u64) -> u8
     ensures { result ≡ digit (n % 10) }
 {
-    (n % 10) as u8 + 48
+    b'0' + (n % 10) as u8
 }
 
 // Puts the decimal text of n, its digits from the last to the first.
@@ -32,12 +32,10 @@ pub fn put_natural(out: &mut [u8], at: usize, n: u64) -> usize
     ensures { Put out.old at (length (digits n)) (digits n) out.new result }
 {
     let end = at + digit_count(n);
-    let mut i = end;
     let mut rest = n;
-    while at < i {
-        i -= 1;
+    for i in (at..end).rev() {
         out[i] = last_digit(rest);
-        rest = rest / 10;
+        rest /= 10;
     }
     end
 }
@@ -51,18 +49,13 @@ fn put_byte(out: &mut [u8], at: usize, byte: u8) -> usize
     at + 1
 }
 
-// Puts the decimal text of an integer, `-` in front of a negative one's magnitude: one more than `!n`, which is right at both ends.
+// Puts the decimal text of an integer, `-` in front of a negative one's magnitude.
 pub fn put_integer(out: &mut [u8], at: usize, n: i64) -> usize
     requires { Room out.old at (length (integer n)) }
     ensures { Put out.old at (length (integer n)) (integer n) out.new result }
 {
-    if n < 0 {
-        let m = !n;
-        let next = put_byte(out, at, b'-');
-        put_natural(out, next, m as u64 + 1)
-    } else {
-        put_natural(out, at, n as u64)
-    }
+    let start = if n < 0 { put_byte(out, at, b'-') } else { at };
+    put_natural(out, start, n.unsigned_abs())
 }
 
 // Puts a word as it is.
@@ -70,16 +63,12 @@ pub fn put_bytes(out: &mut [u8], at: usize, word: &[u8]) -> usize
     requires { Room out.old at (length word.now) }
     ensures { Put out.old at (length word.now) word.now out.new result }
 {
-    let mut i = 0;
-    while i < word.len() {
-        out[at + i] = word[i];
-        i += 1;
-    }
+    out[at..at + word.len()].copy_from_slice(word);
     at + word.len()
 }
 
 // Puts a space and the decimal text of an integer.
-fn put_spaced(out: &mut [u8], at: usize, n: i64) -> usize
+pub fn put_spaced(out: &mut [u8], at: usize, n: i64) -> usize
     requires { Room out.old at (longest 1) }
     ensures { Put out.old at (longest 1) (32 ∷ integer n) out.new result }
 {
@@ -87,52 +76,46 @@ fn put_spaced(out: &mut [u8], at: usize, n: i64) -> usize
     put_integer(out, next, n)
 }
 
-// Puts the first `count` numbers, each with a space in front.
-fn put_numbers(out: &mut [u8], at: usize, numbers: &[i64], count: usize) -> usize
-    requires { Room out.old at (longest count) × (count ≤ length numbers.now) }
-    ensures { Put out.old at (longest count) (spaced (take count numbers.now)) out.new result }
+// Puts numbers, each with a space in front.
+fn put_numbers(out: &mut [u8], at: usize, numbers: &[i64]) -> usize
+    requires { Room out.old at (longest (length numbers.now)) }
+    ensures { Put out.old at (longest (length numbers.now)) (spaced numbers.now) out.new result }
 {
-    let mut i = 0;
     let mut next = at;
-    while i < count {
-        next = put_spaced(out, next, numbers[i]);
-        i += 1;
+    for number in numbers {
+        next = put_spaced(out, next, *number);
     }
     next
 }
 
-// Puts the first `count` pairs as key, value, each with a space in front.
-fn put_pairs(out: &mut [u8], at: usize, keys: &[i64], values: &[i64], count: usize) -> usize
-    requires { Room out.old at (longest (2 * count)) × (count ≤ length keys.now) × (count ≤ length values.now) }
-    ensures { Put out.old at (longest (2 * count)) (spaced (paired (take count keys.now) (take count values.now))) out.new result }
+// Puts pairs as key, value, each with a space in front.
+fn put_pairs(out: &mut [u8], at: usize, keys: &[i64], values: &[i64]) -> usize
+    requires { Room out.old at (longest (2 * length keys.now)) }
+    ensures { Put out.old at (longest (2 * length keys.now)) (spaced (paired keys.now values.now)) out.new result }
 {
-    let mut i = 0;
     let mut next = at;
-    while i < count {
-        let middle = put_spaced(out, next, keys[i]);
-        next = put_spaced(out, middle, values[i]);
-        i += 1;
+    for (key, value) in keys.iter().zip(values) {
+        let middle = put_spaced(out, next, *key);
+        next = put_spaced(out, middle, *value);
     }
     next
 }
 
-// Puts the line of a transaction: its number, the first `count` numbers, then the first `pairs` pairs as key, value.
+// Puts the line of a transaction: its number, the numbers, then the pairs as key, value.
 pub fn put_line(
     out: &mut [u8],
     at: usize,
     number: u64,
     numbers: &[i64],
-    count: usize,
     keys: &[i64],
     values: &[i64],
-    pairs: usize,
 ) -> usize
-    requires { Room out.old at (longest (1 + count + 2 * pairs)) × (count ≤ length numbers.now) × (pairs ≤ length keys.now) × (pairs ≤ length values.now) }
-    ensures { Put out.old at (longest (1 + count + 2 * pairs)) (line (pos number ∷ (take count numbers.now ++ paired (take pairs keys.now) (take pairs values.now)))) out.new result }
+    requires { Room out.old at (longest (1 + length numbers.now + 2 * length keys.now)) }
+    ensures { Put out.old at (longest (1 + length numbers.now + 2 * length keys.now)) (line (pos number ∷ (numbers.now ++ paired keys.now values.now))) out.new result }
 {
     let first = put_natural(out, at, number);
-    let second = put_numbers(out, first, numbers, count);
-    let third = put_pairs(out, second, keys, values, pairs);
+    let second = put_numbers(out, first, numbers);
+    let third = put_pairs(out, second, keys, values);
     put_byte(out, third, b'\n')
 }
 

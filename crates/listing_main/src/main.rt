@@ -18,18 +18,16 @@ fn show_lines(rt: &impl Print) -> io::Result<()> {
     let numbers = [10, 0, 2, 1, -9223372036854775808, 9223372036854775807, -1];
     let keys = [-9223372036854775808, -10, 0, 9223372036854775807];
     let values = [9223372036854775807, 99, -100, -9223372036854775808];
-    let first = listing::put_line(&mut out, 0, 7, &numbers, 4, &keys, &values, 2);
+    let first = listing::put_line(&mut out, 0, 7, &numbers[..4], &keys[..2], &values[..2]);
     let second = listing::put_line(
         &mut out,
         first,
         18446744073709551615,
         &numbers,
-        7,
         &keys,
         &values,
-        4,
     );
-    let third = listing::put_line(&mut out, second, 10, &numbers, 1, &keys, &values, 0);
+    let third = listing::put_line(&mut out, second, 10, &numbers[..1], &[], &[]);
     print(rt, &out, third)
 }
 

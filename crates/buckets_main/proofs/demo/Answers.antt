@@ -1,6 +1,7 @@
 -- `buckets_main::demo` meets its contract.
+use mathlib.Core.Path.{sym, ◌∙◌}
 use native.Mathlib.Omega.{arith}
-use Rattle.buckets.proofs.Finding.{finds}
+use Rattle.buckets.proofs.Finding.{found_at}
 use Rattle.buckets.proofs.Keeping.{joinable, on_chain}
 use Rattle.buckets_main.proofs.Steps.{row_count, cleared, joined, dropped}
 use Rattle.buckets_main.proofs.demo.Goals as goal
@@ -14,15 +15,11 @@ put-requires c = (omega (arith, row_count _ c.requires.rowed), omega arith)
 pub find-requires : goal.find-requires
 find-requires c = (joined _ _ _ c.requires _ _ _ _ _ c.clear.ensures c.add.ensures c.put.ensures).table
 
-pub returns-then-n-ne3 : goal.returns-then-n-ne3
-returns-then-n-ne3 c =
+pub returns-then-ne : goal.returns-then-ne
+returns-then-ne c =
     let j = joined _ _ _ c.requires _ _ _ _ _ c.clear.ensures c.add.ensures c.put.ensures in
-    absurd (c.if-n-ne3.true (j.only _ (finds _ _ _ _ j.table _ (rw c.in-At.is at c.find.ensures))))
-
-pub returns-in-Nothing : goal.returns-in-Nothing
-returns-in-Nothing c =
-    let j = joined _ _ _ c.requires _ _ _ _ _ c.clear.ensures c.add.ensures c.put.ensures in
-    absurd (finds _ _ _ _ j.table _ (rw c.in-Nothing.is at c.find.ensures) 3 j.held)
+    let e = c.find.ensures ∙ found_at _ _ _ _ j.table _ 3 j.only j.held in
+    sym (rw e at c.ne.ensures) ∙ c.if-ne.true
 
 pub drop-requires : goal.drop-requires
 drop-requires c = let j = joined _ _ _ c.requires _ _ _ _ _ c.clear.ensures c.add.ensures c.put.ensures in on_chain _ _ _ _ j.table _ 3 j.held

@@ -1,23 +1,23 @@
 -- `calls::step_range` meets its contract.
 use mathlib.Core.Path.{ap}
-use Rattle.ranges.specs.declared.Step.{Step}
 use Rattle.ranges.proofs.StepLaw.{step_ready, step_meets}
+use Rattle.std.specs.Prelude.{is_ok}
 use Rattle.lists.proofs.Answers.{passed}
 use Rattle.soundness.specs.Tested.{lent}
-use Rattle.calls.proofs.Entering.{refusing, making}
+use Rattle.calls.proofs.Entering.{refused_by, making}
 use Rattle.calls.proofs.step_range.Goals as goal
 
-pub returns-then-not-sound : goal.returns-then-not-sound
-returns-then-not-sound c = refusing c.sound.ensures c.if-not-sound.true
+pub returns-in_err-tested : goal.returns-in_err-tested
+returns-in_err-tested c = refused_by c.tested.ensures.says c.tested.ensures.refusal c.in_err-tested.was
 
 pub step_range-requires : goal.step_range-requires
-step_range-requires c = step_ready (lent c.args.keys.now c.args.values.now c.args.rows.now c.args.buckets.now c.args.tickets c.args.coordinator) (passed c.sound.ensures c.if-not-sound.false)
+step_range-requires c = step_ready (lent c.args.keys.now c.args.values.now c.args.rows.now c.args.buckets.now c.args.tickets.now c.args.coordinator) (passed c.tested.ensures.says (ap is_ok c.in_ok-tested.was))
 
 pub returns : goal.returns
 returns c =
     let a = c.args in
-    let t = (lent a.keys.now a.values.now a.rows.now a.buckets.now a.tickets a.coordinator) in
-    let S = passed c.sound.ensures c.if-not-sound.false in
+    let t = (lent a.keys.now a.values.now a.rows.now a.buckets.now a.tickets.now a.coordinator) in
+    let S = passed c.tested.ensures.says (ap is_ok c.in_ok-tested.was) in
     let e = c.step_range.ensures in
-    making c.sound.ensures c.if-not-sound.false (rw (e.end, e.keys_out, e.values_out)) (ap (λ (r : Step). r.answer) e.end)
+    making c.tested.ensures.says (ap is_ok c.in_ok-tested.was) (rw (e.tickets, e.keys_out, e.values_out)) e.answer
     (step_meets t S a.version.0 a.out_keys.now a.out_values.now)

@@ -21,9 +21,9 @@ make_pending-requires c =
     let h = remove_holds c.requires c.find.ensures c.in-Some.is in
     rw (c.put.ensures, c.drop.ensures.0) (take_sized c.args.counter.0 c.requires h, h.node, take_some c.args.counter.0 c.requires h)
 
-pub returns-in-Some : goal.returns-in-Some
+pub returns : goal.returns
 unfolding taken_out
-returns-in-Some c =
+returns c =
     let a = c.args in
     let r = rank_is a.key c.ranges.key c.rank-rank.ensures in
     let e = find_is _ _ _ a.key c.find.ensures r c.in-Some.is in
@@ -33,9 +33,9 @@ returns-in-Some c =
       to_buckets = rw (c.drop.ensures.1, r);
     }
 
-pub returns-in-None : goal.returns-in-None
-returns-in-None c =
+pub returns-in_default : goal.returns-in_default
+returns-in_default c =
     let a = c.args in
     let r = rank_is a.key c.ranges.key c.rank-rank.ensures in
-    let e = find_is _ _ _ a.key c.find.ensures r c.in-None.is in
+    let e = find_is _ _ _ a.key c.find.ensures r c.in_default.is in
     record { answer = sym (remove_lacks _ _ _ a.key e); to_rows = refl; to_buckets = refl }

@@ -1,5 +1,5 @@
 -- `finds::lookup` meets its contract: the value of the node that the bucket has, or none.
-use mathlib.Core.Path.{ap, ◌∙◌}
+use mathlib.Core.Path.{refl, ap, ◌∙◌}
 use mir.Syntax.{w64}
 use mir.ValLaws.{to_z-of_z}
 use Rattle.sizes.specs.Rank.{rank_of}

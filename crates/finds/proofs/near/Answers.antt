@@ -33,17 +33,19 @@ pub search-found-requires : goal.search-found-requires
 search-found-requires c = rw c.levels_of.ensures c.requires.searchable
 
 pub nearest-requires-in-After : goal.nearest-requires-in-After
-nearest-requires-in-After c = rw c.in-After.is (walk_after _ _ _ c.requires _ c.levels_of.ensures c.search-found.ensures)
+nearest-requires-in-After c = rw (ap way c.in-After.is) (walk_after _ _ _ c.requires _ c.levels_of.ensures c.search-found.ensures)
 
 pub returns-in-After : goal.returns-in-After
 returns-in-After c =
     let s = c.requires in
-    c.nearest-in-After.ensures ∙ sym (near_after _ _ _ s _ c.levels_of.ensures c.search-found.ensures _ (unheld _ _ _ s _ c.find.ensures c.in_default.is) (ap way c.in-After.is))
+    rw (ap way c.in-After.is) at c.nearest-in-After.ensures
+    ∙ sym (near_after _ _ _ s _ c.levels_of.ensures c.search-found.ensures _ (unheld _ _ _ s _ c.find.ensures c.in_default.is) (ap way c.in-After.is))
 
 pub nearest-requires-in-Before : goal.nearest-requires-in-Before
-nearest-requires-in-Before c = rw c.in-Before.is (walk_before _ _ _ c.requires _ c.levels_of.ensures c.search-found.ensures)
+nearest-requires-in-Before c = rw (ap way c.in-Before.is) (walk_before _ _ _ c.requires _ c.levels_of.ensures c.search-found.ensures)
 
 pub returns-in-Before : goal.returns-in-Before
 returns-in-Before c =
     let s = c.requires in
-    c.nearest-in-Before.ensures ∙ sym (near_before _ _ _ s _ c.levels_of.ensures c.search-found.ensures _ (unheld _ _ _ s _ c.find.ensures c.in_default.is) (ap way c.in-Before.is))
+    rw (ap way c.in-Before.is) at c.nearest-in-Before.ensures
+    ∙ sym (near_before _ _ _ s _ c.levels_of.ensures c.search-found.ensures _ (unheld _ _ _ s _ c.find.ensures c.in_default.is) (ap way c.in-Before.is))

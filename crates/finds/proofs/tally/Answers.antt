@@ -2,4 +2,4 @@
 use Rattle.finds.proofs.tally.Goals as goal
 
 pub returns : goal.returns
-returns c = rw (c.free_count.ensures, c.present_count.ensures, c.cell-retired.ensures)
+returns c = rw (c.free_count.ensures, c.present_count.ensures, c.cell.ensures)

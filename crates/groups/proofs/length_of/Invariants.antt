@@ -1,4 +1,4 @@
--- `groups::length_of` meets its contract. The invariant: the bytes counted, with those of what is left, are one more than the number's. The measure is what is left.
+-- The invariant: the bytes counted, with those of what is left, are one more than the number's. The measure is what is left.
 use Prim.Native.Nat.{◌+◌, ◌^◌, ◌<◌}
 use mathlib.Core.Path.{◌≡◌}
 use lib.ListN.{length}

@@ -1,19 +1,13 @@
--- `groups::put` meets its contract. The invariant: storing the bytes of what is left gives the buffer that is asked for. The measure is what is left.
+-- `groups::put` meets its contract.
 use Prim.Native.Nat.{◌+◌, ◌%◌}
-use mathlib.Core.Path.{refl, sym, ◌∙◌}
+use mathlib.Core.Path.{sym, ◌∙◌}
 use native.Mathlib.Omega.{arith}
 use lib.ListN.{length-set}
 use Rattle.groups.proofs.Grouping.{groups_some, length_low, length_step, sets_low, sets_step}
 use Rattle.groups.proofs.put.Goals as goal
 
-pub loop-left-init : goal.loop-left-init
-loop-left-init c = (refl, refl, refl)
-
 pub bounds-buffer-place : goal.bounds-buffer-place
 bounds-buffer-place c = omega (arith, groups_some c.loop-left.left)
-
-pub overflow_add-place : goal.overflow_add-place
-overflow_add-place c = omega (arith, groups_some c.loop-left.left)
 
 pub loop-left-preserved : goal.loop-left-preserved
 loop-left-preserved c =
@@ -25,12 +19,6 @@ loop-left-preserved c =
 
 pub bounds-buffer-place-2 : goal.bounds-buffer-place-2
 bounds-buffer-place-2 c = omega (arith, groups_some c.loop-left.left)
-
-pub overflow_add-result : goal.overflow_add-result
-overflow_add-result c = omega (arith, groups_some c.loop-left.left)
-
-pub shape_of-buffer : goal.shape_of-buffer
-shape_of-buffer c = simp length-set c.loop-left.invariant.1
 
 pub returns : goal.returns
 returns c =

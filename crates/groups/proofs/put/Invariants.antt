@@ -1,4 +1,4 @@
--- `groups::put` meets its contract. The invariant: storing the bytes of what is left gives the buffer that is asked for. The measure is what is left.
+-- The invariant: storing the bytes of what is left gives the buffer that is asked for. The measure is what is left.
 use Prim.Native.Nat.{◌+◌}
 use mathlib.Core.Path.{◌≡◌}
 use lib.ListN.{length}

@@ -1,77 +1,60 @@
--- `groups::read_each` meets its contract. The loop's invariant: the bytes behind have their high bits set (`Going`). The measure is what is left of the bytes.
+-- `groups::read_each` meets its contract. The loop's invariant: the bytes behind have their high bits set (`Going`).
 use Prim.Native.Nat.{◌+◌, ◌*◌, ◌^◌, ◌<◌}
-use mathlib.Core.Path.{sym, ap, ◌∙◌}
-use mathlib.Core.Logic.{inr}
+use mathlib.Core.Path.{sym}
+use mathlib.Core.Logic.{inl, inr, ⊎_elim}
 use native.Mathlib.Omega.{arith}
-use lib.ListN.{drop, get_or, length-drop}
-use lib.Seq.{get_or-drop}
+use lib.ListN.{drop}
 use Rattle.groups.proofs.Scanning as scan
 use Rattle.groups.proofs.read_each.Goals as goal
-use Rattle.groups.proofs.read_each.Goals.{After-wide-byte, Joined-else-count-eq9, else-count-eq9-via-then-count-eq9+else-byte-gt1, else-count-eq9-via-else-count-eq9}
+use Rattle.groups.proofs.read_each.Goals.{After-from-byte, Joined-else-count-eq9-2}
 
 -- what is known once a byte is read
-at_byte : (c : After-wide-byte) → scan.Met (drop c.args.at c.args.bytes.now) c.loop-place.sum c.loop-place.power c.loop-place.count c.wide-byte.result
+at_byte : (c : After-from-byte) → scan.Met (drop c.args.at c.args.bytes.now) c.loop-count.sum c.loop-count.power c.loop-count.count c.from-byte.result
 at_byte c =
-    let at = c.args.at in
-    let bytes = c.args.bytes.now in
-    let l = c.loop-place in
+    let e = c.left-byte-items.ensures in
     record {
-      going = l.invariant.1;
-      more = simp length-drop (omega arith);
-      is = get_or-drop at bytes l.count 0 ∙ ap (λ k. get_or bytes k 0) (sym l.invariant.0) ∙ sym c.wide-byte.ensures;
-      byte = omega (arith, c.shared_slice_known-in-loop-place-1.given l.place, c.wide-byte.ensures);
+      going = c.loop-count.invariant;
+      more = rw (← e) c.loop-count-test.true;
+      is = rw (← e) (sym c.from-byte.ensures);
+      byte = omega (arith, c.from-byte.ensures, c.type_inv.byte-items c.loop-count.count);
     }
 
 -- a last byte fits, whether it is the tenth or comes before it
-small : (c : Joined-else-count-eq9)
-    → scan.Met (drop c.args.at c.args.bytes.now) c.loop-place.sum c.loop-place.power c.loop-place.count c.wide-byte.result
-    → c.loop-place.sum + c.wide-byte.result * c.loop-place.power < 2 ^ 64
-small c h = elim c.else-count-eq9.branch [
-  | else-count-eq9-via-then-count-eq9+else-byte-gt1 w ↦ scan.tenth_fits h w.if-count-eq9.true w.if-byte-gt1.false
-  | else-count-eq9-via-else-count-eq9 w ↦ scan.early_fits h w.if-count-eq9.false c.if-byte-lt128.true
-]
+small : (c : Joined-else-count-eq9-2)
+    → scan.Met (drop c.args.at c.args.bytes.now) c.loop-count.sum c.loop-count.power c.loop-count.count c.from-byte.result
+    → c.loop-count.sum + c.from-byte.result * c.loop-count.power < 2 ^ 64
+small c h = ⊎_elim (λ t. scan.tenth_fits h t.0 t.1) (λ n. scan.early_fits h n c.if-byte-ge128.false) c.else-count-eq9-2.either
 
-pub loop-place-init : goal.loop-place-init
-loop-place-init c = (omega arith, scan.going_none _)
-
-pub returns-then-count-eq0 : goal.returns-then-count-eq0
-returns-then-count-eq0 c = scan.going_one (at_byte (goal.at.returns-then-count-eq0 c).After-wide-byte) c.if-byte-lt128.true c.if-count-eq0.true
-
-pub returns-then-byte-eq0 : goal.returns-then-byte-eq0
-returns-then-byte-eq0 c = scan.going_zero (at_byte (goal.at.returns-then-byte-eq0 c).After-wide-byte) c.if-byte-eq0.true c.if-count-eq0.false
-
-pub returns-then-byte-gt1 : goal.returns-then-byte-gt1
-returns-then-byte-gt1 c = let h = at_byte (goal.at.returns-then-byte-gt1 c).After-wide-byte in scan.going_large h c.if-byte-lt128.true (scan.tenth_large h c.if-count-eq9.true c.if-byte-gt1.true)
-
-pub overflow_mul-result : goal.overflow_mul-result
-overflow_mul-result c = record { fits = omega (arith, small (goal.at.overflow_mul-result c).Joined-else-count-eq9 (at_byte (goal.at.overflow_mul-result c).After-wide-byte)) }
-
-pub overflow_add-result : goal.overflow_add-result
-overflow_add-result c = record { fits = omega (arith, small (goal.at.overflow_add-result c).Joined-else-count-eq9 (at_byte (goal.at.overflow_add-result c).After-wide-byte)) }
-
-pub overflow_add-result-then-byte-lt128 : goal.overflow_add-result-then-byte-lt128
-overflow_add-result-then-byte-lt128 c = let g = (at_byte (goal.at.overflow_add-result-then-byte-lt128 c).After-wide-byte).going in record { fits = omega (arith, g.few) }
-
-pub returns-then-byte-lt128 : goal.returns-then-byte-lt128
-returns-then-byte-lt128 c = scan.going_of (at_byte (goal.at.returns-then-byte-lt128 c).After-wide-byte) c.if-byte-lt128.true (inr c.if-byte-eq0.false) (small (goal.at.returns-then-byte-lt128 c).Joined-else-count-eq9 (at_byte (goal.at.returns-then-byte-lt128 c).After-wide-byte))
-
-pub returns-then-count-eq9-2 : goal.returns-then-count-eq9-2
-returns-then-count-eq9-2 c = scan.going_long (at_byte (goal.at.returns-then-count-eq9-2 c).After-wide-byte) c.if-count-eq9-2.true c.if-byte-lt128.false
+pub returns-then-count-eq9 : goal.returns-then-count-eq9
+returns-then-count-eq9 c = scan.going_long (at_byte (goal.at.returns-then-count-eq9 c).After-from-byte) c.if-count-eq9.true c.if-byte-ge128.true
 
 pub overflow_mul-sum : goal.overflow_mul-sum
-overflow_mul-sum c = let h = at_byte (goal.at.overflow_mul-sum c).After-wide-byte in record { fits = omega (arith, scan.next_fits h c.if-count-eq9-2.false) }
+overflow_mul-sum c = record { fits = omega (arith, scan.next_fits (at_byte (goal.at.overflow_mul-sum c).After-from-byte) c.if-count-eq9.false) }
 
 pub overflow_add-sum : goal.overflow_add-sum
-overflow_add-sum c = let h = at_byte (goal.at.overflow_add-sum c).After-wide-byte in record { fits = omega (arith, scan.next_fits h c.if-count-eq9-2.false, scan.going_below h.going, scan.going_small h.going c.if-count-eq9-2.false) }
+overflow_add-sum c =
+    let h = at_byte (goal.at.overflow_add-sum c).After-from-byte in
+    record { fits = omega (arith, scan.next_fits h c.if-count-eq9.false, scan.going_below h.going, scan.going_small h.going c.if-count-eq9.false) }
 
 pub overflow_mul-power : goal.overflow_mul-power
-overflow_mul-power c = let h = at_byte (goal.at.overflow_mul-power c).After-wide-byte in record { fits = omega (arith, scan.going_small h.going c.if-count-eq9-2.false) }
+overflow_mul-power c = record { fits = omega (arith, scan.going_small c.loop-count.invariant c.if-count-eq9.false) }
 
-pub overflow_add-count : goal.overflow_add-count
-overflow_add-count c = let h = at_byte (goal.at.overflow_add-count c).After-wide-byte in record { fits = omega (arith, h.going.few) }
+pub loop-count-preserved : goal.loop-count-preserved
+loop-count-preserved c = scan.going_next (at_byte (goal.at.loop-count-preserved c).After-from-byte) c.if-count-eq9.false c.if-byte-ge128.true
 
-pub loop-place-preserved : goal.loop-place-preserved
-loop-place-preserved c = (omega arith, scan.going_next (at_byte (goal.at.loop-place-preserved c).After-wide-byte) c.if-count-eq9-2.false c.if-byte-lt128.false)
+pub returns-then-count-gt0 : goal.returns-then-count-gt0
+returns-then-count-gt0 c = scan.going_zero (at_byte (goal.at.returns-then-count-gt0 c).After-from-byte) c.if-byte-eq0.true (omega arith)
 
-pub returns : goal.returns
-returns c = scan.going_out c.loop-place.invariant.1 (simp length-drop (omega arith))
+pub returns-then-byte-gt1 : goal.returns-then-byte-gt1
+returns-then-byte-gt1 c = let h = at_byte (goal.at.returns-then-byte-gt1 c).After-from-byte in scan.going_large h (omega arith) (scan.tenth_large h c.if-count-eq9-2.true c.if-byte-gt1.true)
+
+pub overflow_mul-result : goal.overflow_mul-result
+overflow_mul-result c = record { fits = omega (arith, small c (at_byte (goal.at.overflow_mul-result c).After-from-byte)) }
+
+pub overflow_add-result : goal.overflow_add-result
+overflow_add-result c = record { fits = omega (arith, small c (at_byte (goal.at.overflow_add-result c).After-from-byte)) }
+
+pub returns-in-loop-count : goal.returns-in-loop-count
+returns-in-loop-count c =
+    let h = at_byte (goal.at.returns-in-loop-count c).After-from-byte in
+    scan.going_of h c.if-byte-ge128.false (⊎_elim (λ z. inl (omega arith)) (λ n. inr n) c.else-byte-eq0.either) (small c h)

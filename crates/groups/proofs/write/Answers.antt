@@ -3,11 +3,8 @@ use mathlib.Core.Path.{◌∙◌}
 use native.Mathlib.Omega.{arith}
 use native.Mathlib.Nat.{zero-add}
 use Rattle.groups.specs.Groups.{groups_of}
-use Rattle.groups.proofs.Writing.{writes_short, writes_whole}
+use Rattle.groups.proofs.Writing.{writes_whole}
 use Rattle.groups.proofs.write.Goals as goal
-
-pub returns-then-buffer-length_of : goal.returns-then-buffer-length_of
-returns-then-buffer-length_of c = let a = c.args in writes_short (groups_of a.n) a.buffer.now (omega arith)
 
 pub returns : goal.returns
 returns c =

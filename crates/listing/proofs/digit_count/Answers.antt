@@ -3,14 +3,8 @@ use native.Mathlib.Omega.{arith}
 use Rattle.listing.proofs.Digits.{count_one, count_more, digits_some, natural_length}
 use Rattle.listing.proofs.digit_count.Goals as goal
 
-pub loop-rest-init : goal.loop-rest-init
-loop-rest-init c = omega arith
-
 pub overflow_add-count : goal.overflow_add-count
 overflow_add-count c = omega (arith, digits_some c.loop-rest.rest, natural_length c.args.n (omega arith))
-
-pub loop-rest-smaller : goal.loop-rest-smaller
-loop-rest-smaller c = omega arith
 
 pub loop-rest-preserved : goal.loop-rest-preserved
 loop-rest-preserved c = omega (arith, count_more c.loop-rest.rest (omega arith))

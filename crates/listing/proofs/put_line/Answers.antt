@@ -1,6 +1,5 @@
 -- `listing::put_line` meets its contract.
 use native.Mathlib.Omega.{arith}
-use lib.ListN.{take}
 use Rattle.listing.specs.Lines.{paired}
 use Rattle.listing.proofs.Digits.{natural_length}
 use Rattle.listing.proofs.Lining.{put_line_lem}
@@ -21,4 +20,4 @@ put_byte-requires c = omega (arith, natural_length c.args.number c.ranges.number
 pub returns : goal.returns
 returns c =
     let a = c.args in
-    put_line_lem (take a.count a.numbers.now) (paired (take a.pairs a.keys.now) (take a.pairs a.values.now)) _ _ c.ranges.number.fits c.requires.0 c.put_natural-first.ensures c.put_numbers-second.ensures c.put_pairs-third.ensures c.put_byte.ensures
+    put_line_lem a.numbers.now (paired a.keys.now a.values.now) _ _ c.ranges.number.fits c.requires c.put_natural-first.ensures c.put_numbers-second.ensures c.put_pairs-third.ensures c.put_byte.ensures

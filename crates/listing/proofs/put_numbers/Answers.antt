@@ -1,16 +1,10 @@
--- `listing::put_numbers` meets its contract: those before i are put.
-use mathlib.Core.Path.{◌≡◌, refl}
+-- `listing::put_numbers` meets its contract: those before the index are put.
 use native.Mathlib.Omega.{arith}
 use Rattle.listing.proofs.Putting.{put_none_lem, put_number}
 use Rattle.listing.proofs.put_numbers.Goals as goal
 
-pub loop-i-init : goal.loop-i-init
-loop-i-init c = (omega arith, refl, put_none_lem _ _)
+pub loop-number-init : goal.loop-number-init
+loop-number-init c = put_none_lem _ _
 
-pub loop-i-preserved : goal.loop-i-preserved
-loop-i-preserved c =
-    let v = c.loop-i.invariant in
-    (omega arith, omega (arith, v.1), put_number _ _ (omega arith) (omega arith) v.2 c.put_spaced-arg-in-loop-i-1.given c.put_spaced-next.ensures)
-
-pub returns : goal.returns
-returns c = let e : c.loop-i.i ≡ c.args.count = omega arith in rw e at c.loop-i.invariant.2
+pub loop-number-preserved : goal.loop-number-preserved
+loop-number-preserved c = put_number _ _ (omega arith) c.loop-number-test.true c.loop-number.invariant (omega arith) c.put_spaced-next.ensures

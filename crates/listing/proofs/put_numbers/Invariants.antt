@@ -1,13 +1,8 @@
--- `listing::put_numbers` meets its contract: those before i are put.
-use mathlib.Core.Path.{◌≡◌}
-use Prim.Native.Nat.{◌-◌, ◌≤◌}
-use lib.ListN.{length, take}
+-- `listing::put_numbers` meets its contract: those before the index are put.
+use lib.ListN.{take}
 use Rattle.listing.specs.Lines.{spaced}
 use Rattle.listing.specs.Puts.{longest, Put}
 use Rattle.listing.proofs.put_numbers.Given as goal
 
-abbrev pub invariant-loop-i : goal.invariant-loop-i
-invariant-loop-i l = (l.i ≤ l.count) × (length l.out ≡ length l.initial.out) × Put l.initial.out l.at (longest l.i) (spaced (take l.i l.numbers)) l.out l.next
-
-abbrev pub decreases-loop-i : goal.decreases-loop-i
-decreases-loop-i l = l.count - l.i
+abbrev pub invariant-loop-number : goal.invariant-loop-number
+invariant-loop-number l = Put l.initial.out l.at (longest l.number-index) (spaced (take l.number-index l.numbers)) l.out l.next

@@ -1,16 +1,19 @@
--- `listing::put_pairs` meets its contract: those before i are put.
-use mathlib.Core.Path.{◌≡◌, refl}
+-- `listing::put_pairs` meets its contract: the pairs so far are put.
 use native.Mathlib.Omega.{arith}
-use Rattle.listing.proofs.Putting.{put_none_lem, put_pair}
+use lib.ListN.{length-append}
+use Rattle.std.proofs.lemmas.Slice.Zip.{zip_turn, zip_end}
+use Rattle.listing.proofs.Putting.{put_none_lem, put_pair, put_all_pairs}
 use Rattle.listing.proofs.put_pairs.Goals as goal
 
-pub loop-i-init : goal.loop-i-init
-loop-i-init c = (omega arith, refl, put_none_lem _ _)
+pub loop-key-init : goal.loop-key-init
+loop-key-init c = put_none_lem _ _
 
-pub loop-i-preserved : goal.loop-i-preserved
-loop-i-preserved c =
-    let v = c.loop-i.invariant in
-    (omega arith, omega (arith, v.1), put_pair _ _ _ (omega arith) (omega arith) (omega arith) v.2 c.put_spaced-arg-in-loop-i-1.given c.put_spaced-middle.ensures c.put_spaced-arg-in-loop-i-3-1.given c.put_spaced-next.ensures)
+pub loop-key-preserved : goal.loop-key-preserved
+loop-key-preserved c =
+    let t = zip_turn c.args.keys.now c.args.values.now c.loop-key.yielded c.into_iter-key-iterator.result c.loop-key.key-iterator c.next.new.self _ (cc) (cc) c.loop-key.yielded_by _ c.in-Some.is c.next.ensures.steps in
+    put_pair _ _ _ _ (simp length-append (omega arith)) (omega (arith, t)) t c.loop-key.invariant (omega arith) c.put_spaced-middle.ensures (omega arith) c.put_spaced-next.ensures
 
 pub returns : goal.returns
-returns c = let e : c.loop-i.i ≡ c.args.count = omega arith in rw e at c.loop-i.invariant.2
+returns c =
+    let n = zip_end c.args.keys.now c.args.values.now c.loop-key.yielded c.into_iter-key-iterator.result c.loop-key.key-iterator c.next.new.self _ (cc) (cc) c.loop-key.yielded_by c.in-None.is c.next.ensures.steps in
+    put_all_pairs _ _ n c.loop-key.invariant
