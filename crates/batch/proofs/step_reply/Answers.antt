@@ -1,9 +1,9 @@
--- `batch::step_turn` meets its contract.
+-- `batch::step_reply` meets its contract.
 use mathlib.Core.Path.{sym}
 use lib.Seq.{length-take-le}
-use Rattle.batch.proofs.Pairing.{step_turn_lem}
 use borrow.Author.Rules.{rules}
-use Rattle.batch.proofs.step_turn.Goals as goal
+use Rattle.batch.proofs.Pairing.{step_lands}
+use Rattle.batch.proofs.step_reply.Goals as goal
 
 pub slice_bounds-step_range-end-2 : goal.slice_bounds-step_range-end-2
 slice_bounds-step_range-end-2 c = sym (length-take-le _ _ (search rules))
@@ -14,5 +14,5 @@ slice_bounds-step_range-end-4 c = sym (length-take-le _ _ (search rules))
 pub returns : goal.returns
 returns c =
     let a = c.args in
-    step_turn_lem a.keys.now a.values.now a.rows.now a.tickets a.coordinator a.version.0 a.n a.out_keys.now a.out_values.now c.requires.1 c.requires.2
-    c.step_room-places.ensures c.step_range-made.ensures c.stepped_cells.ensures c.stepped_count.ensures
+    step_lands a.keys.now a.values.now a.rows.now a.tickets.now a.ranges a.version.0 a.n a.out_keys.now a.out_values.now c.requires.1 c.requires.2
+    c.step_room-places.ensures c.step_range-answer.ensures ?
