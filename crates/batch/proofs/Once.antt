@@ -70,7 +70,7 @@ same_end : (e f : End) → ◌≡◌ {A = Next} (Err e) (Err f) → e ≡ f
 same_end e f q = cc
 
 same_call : (c d : Call) (l k : ℕ) → ◌≡◌ {A = Next} (Ok (c, l)) (Ok (d, k)) → c ≡ d
-same_call c d l k q = cc
+same_call c d l k q = let p : ◌≡◌ {A = Call × ℕ} (c, l) (d, k) = cc in ap (λ (x : Call × ℕ). x.0) p
 
 not_both : (e : End) (c : Call) (l : ℕ) → ◌≡◌ {A = Next} (Err e) (Ok (c, l)) → ⊥
 not_both e c l q = let z : ◌≡◌ {A = ℕ} 0 1 = cc in omega arith
