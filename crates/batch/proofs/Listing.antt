@@ -284,22 +284,10 @@ sofar_ends {i} s end c =
       met = s.met;
     }
 
--- LAW: the call that comes ends within the bytes, and leaves fewer
-pub next_ends : {i : Input} {t : Tables} {out ks vs : List ℤ} {used calls pairs : ℕ} (s : Sofar i t out ks vs used calls pairs) {c : Call} {len : ℕ}
-    → Comes i.bytes i.more (length out) (length ks) (length vs) used calls pairs (Ok (c, len)) → used + len ≤ length i.bytes
-next_ends {i = i} {used = used} s n = let d = length-drop used i.bytes in omega (arith, s.inside, n.1.inside)
-
+-- LAW: the call that comes leaves fewer bytes
 pub next_less : {i : Input} {t : Tables} {out ks vs : List ℤ} {used calls pairs : ℕ} (s : Sofar i t out ks vs used calls pairs) {c : Call} {len : ℕ}
     → Comes i.bytes i.more (length out) (length ks) (length vs) used calls pairs (Ok (c, len)) → length i.bytes - (used + len) < length i.bytes - used
 next_less s {c} n = let e = read_length n.1 in let l = call_some c in omega (arith, n.0.left)
-
--- ---- on any tables
-
-pub ran_refused : (i : Input) {r : Bool} → Says r (Sound i.tables) → r ≡ false → Ran i (untouched i)
-ran_refused i {r} s e = record { tested = r; says = s; refuses = λ z. refl; lists = λ y. absurd (true≢false (sym y ∙ e)) }
-
-pub ran_lists : {i : Input} {o : Output} {r : Bool} → Says r (Sound i.tables) → r ≡ true → Listed i o → Ran i o
-ran_lists {r = r} s e l = record { tested = r; says = s; refuses = λ z. absurd (true≢false (sym e ∙ z)); lists = λ y. l }
 
 -- ---- what an outcome tells
 

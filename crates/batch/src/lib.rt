@@ -19,7 +19,7 @@ ghost use Rattle.batch.specs.Turns.{room, Turned, reply_of, FastReply, StepReply
 ghost use Rattle.batch.specs.Lists.{Room, Comes, Laid, Listed, Ran, input_of, output_of, ended_by};
 
 use model::{Handed, Refusal, Stepped, Swept, Tallied};
-use rows::Direction;
+use rows::Direction::{After, Before};
 use sizes::{Node, Version};
 use tables::{Coordinator, Ticket};
 use transactions::{Call, Halt};
@@ -106,7 +106,12 @@ impl Told for Tallied {
     ghost told = { λ (t : Tallied). counts t.present t.held t.free };
 
     fn cells(self, code: u32) -> [i64; 5] {
-        accepted(code, i64::from(self.present), i64::from(self.held), i64::from(self.free))
+        accepted(
+            code,
+            i64::from(self.present),
+            i64::from(self.held),
+            i64::from(self.free),
+        )
     }
 }
 
@@ -216,31 +221,36 @@ fn make_call(
     ensures { Turned (lent keys.old values.old rows.old buckets.old tickets.old coordinator.old) (lent keys.new values.new rows.new buckets.new tickets.new coordinator.new) call out_keys.old out_values.old out_keys.new out_values.new result.cells result.pairs }
 {
     let cap = keys.len() as u32;
+    let Coordinator {
+        counter,
+        ranges,
+        due,
+    } = *coordinator;
     match call {
         Call::Lookup(key) => plain(0, finds::lookup(keys, values, rows, buckets, key)),
         Call::Insert(key, value, coin) => plain(
             1,
-            changes::insert(keys, values, rows, buckets, coordinator.counter, key, value, coin),
+            changes::insert(keys, values, rows, buckets, counter, key, value, coin),
         ),
-        Call::Remove(key) => plain(2, changes::remove(keys, rows, buckets, coordinator.counter, key)),
-        Call::HandOver(node) => plain(3, returns::hand_over(rows, cap, tickets, coordinator.ranges, node)),
-        Call::Ceil(key) => plain(4, finds::nearest(keys, rows, buckets, key, Direction::After, true)),
-        Call::Floor(key) => plain(5, finds::nearest(keys, rows, buckets, key, Direction::Before, true)),
-        Call::Succ(key) => plain(6, finds::nearest(keys, rows, buckets, key, Direction::After, false)),
-        Call::Pred(key) => plain(7, finds::nearest(keys, rows, buckets, key, Direction::Before, false)),
+        Call::Remove(key) => plain(2, changes::remove(keys, rows, buckets, counter, key)),
+        Call::HandOver(node) => plain(3, returns::hand_over(rows, cap, tickets, ranges, node)),
+        Call::Ceil(key) => plain(4, finds::nearest(keys, rows, buckets, key, After, true)),
+        Call::Floor(key) => plain(5, finds::nearest(keys, rows, buckets, key, Before, true)),
+        Call::Succ(key) => plain(6, finds::nearest(keys, rows, buckets, key, After, false)),
+        Call::Pred(key) => plain(7, finds::nearest(keys, rows, buckets, key, Before, false)),
         Call::Fast(low, high) => fast_reply(
-            keys, values, rows, buckets, coordinator.counter, low, high, out_keys, out_values,
+            keys, values, rows, buckets, counter, low, high, out_keys, out_values,
         ),
         Call::Open(low, high) => plain(
             9,
             ranges::open_range(keys, rows, buckets, tickets, coordinator, low, high),
         ),
         Call::Step(version, n) => step_reply(
-            keys, values, rows, tickets, coordinator.ranges, version, n, out_keys, out_values,
+            keys, values, rows, tickets, ranges, version, n, out_keys, out_values,
         ),
         Call::Close(version) => plain(11, ranges::close_range(tickets, coordinator, version)),
         Call::Sweep => plain(12, Ok(returns::sweep_one(rows, cap, coordinator))),
-        Call::Tally => plain(13, Ok(finds::tally(rows, cap, coordinator.due))),
+        Call::Tally => plain(13, Ok(finds::tally(rows, cap, due))),
     }
 }
 
