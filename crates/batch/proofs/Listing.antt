@@ -2,7 +2,7 @@
 -- Assumes nothing.
 use Rattle.std.specs.Prelude.{Result, Ok, Err}
 use mathlib.Core.Path.{◌≡◌, refl, sym, ap, ap₂, ◌∙◌}
-use mathlib.Core.Bool.{Bool, true, false, true≢false}
+use mathlib.Core.Bool.{Bool, true, true≢false}
 use mathlib.Core.List.{List, [], ◌∷◌, ◌++◌, map, append_assoc, append-nil}
 use mathlib.Core.Option.{Option}
 use mathlib.Core.Option as O
@@ -11,7 +11,6 @@ use native.Mathlib.Omega.{arith}
 use lib.ListN.{length, take, drop, length-append, length-map, length-drop}
 use lib.Seq.{take-add}
 use lib.IntN.{ℤ}
-use Rattle.lists.specs.Tests.{Says}
 use Rattle.lists.specs.Buffers.{written}
 use Rattle.lists.proofs.Answers.{yes! }
 use Rattle.lists.proofs.Writing.{written_none, written_length, written_append}
@@ -34,7 +33,7 @@ use Rattle.calls.proofs.Histories.{as_the_model}
 use Rattle.batch.specs.declared.End.{End}
 use Rattle.batch.specs.Cells.{cells_of}
 use Rattle.batch.specs.Turns.{room, meant, turn_tables, answer_of, pairs_of, keys_in, values_in}
-use Rattle.batch.specs.Lists.{Input, Output, bytes_in, tables_after, made_on, cells_in, pairs_in, Comes, Follows, Made, leaves, untouched, Laid, Listed, Ran}
+use Rattle.batch.specs.Lists.{Input, Output, bytes_in, tables_after, made_on, cells_in, pairs_in, Comes, Follows, Made, leaves, Laid, Listed}
 
 -- ---- one more call
 
