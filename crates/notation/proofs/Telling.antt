@@ -9,7 +9,7 @@ use native.Mathlib.Numerals.{add-one}
 use lib.Dec.{leb}
 use lib.ListN.{length, take, drop, set, get_or, length-append, length-map}
 use lib.Seq.{length-take-le, take_all, take-suc, drop-append_seam}
-use borrow.Author.Tests.{le-leb, lt-leb, leb-true, leb-false}
+use borrow.Author.Tests.{lt-leb, leb-true, leb-false}
 use Rattle.lists.specs.Holds.{All}
 use Rattle.lists.proofs.Holding.{all_every, all_append, all_map}
 use Rattle.groups.proofs.Standing.{stands_first}
@@ -70,10 +70,7 @@ shown_next out mid word i b h k l p e =
 pub shown_bytes : (out last word : List ℕ) (i : ℕ) → length word ≤ 40 → i ≡ length word → Put out 0 i (take i (map shown_byte word)) last i → Put out 0 40 (map shown_byte word) last (length word)
 shown_bytes out last word i h e p = let q = rw (take_all i (map shown_byte word) (rw (length-map word shown_byte) (omega arith))) at p in put_wider (omega arith) (rw e at q)
 
--- LAW: a word of at most 40 bytes is shown whole, a longer one by its first 40 and `..`
-pub shown_whole : (word : List ℕ) {out last : List ℕ} {next : ℕ} → length word ≤ 40 → Put out 0 40 (map shown_byte word) last next → Put out 0 42 (shown word) last next
-shown_whole word h p = rw (le-leb (length word) 40 h) (put_wider (omega arith) p)
-
+-- LAW: a word of more than 40 bytes is shown by its first 40 and `..`
 pub shown_cut : (word : List ℕ) {out mid last : List ℕ} {here next : ℕ} → 40 < length word → Room out 0 42 → Put out 0 40 (map shown_byte (take 40 word)) mid here
     → Put mid here 2 (46 ∷ 46 ∷ []) last next → Put out 0 42 (shown word) last next
 shown_cut word h room p q = rw (lt-leb (length word) 40 h) (put_then (omega arith) p q)

@@ -92,9 +92,7 @@ fn nodes_ok(keys: &[u64], rows: &[u32], cap: u32, counter: Version) -> bool
         if !order_ok(keys, rows, cap, n, next) {
             return false;
         }
-        if cell(rows, n, Column::Place) == IS_RETIRED {
-            retired += 1;
-        }
+        retired += u32::from(cell(rows, n, Column::Place) == IS_RETIRED);
         linked += 1;
         n = next;
     }
