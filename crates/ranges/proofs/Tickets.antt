@@ -9,6 +9,7 @@ use native.Mathlib.Omega.{arith}
 use lib.ListN.{length, set, take}
 use lib.Seq.{length-take-le, take-nil}
 use lib.Dec.{eqb, ltb}
+use borrow.Author.Tests.{ltb-true}
 use Rattle.std.specs.Prelude.{Some, None}
 use Rattle.std.specs.List.{position_or_len}
 use Rattle.std.proofs.lemmas.List.Recursion.{is_position_or_len}
@@ -73,12 +74,12 @@ not_found v k ts l e = go (ltb (index_of v k ts) k) (rw (place_taken v k ts l) a
     go true e = cc
     go false e = refl
 
-pub is_found : (v k : ℕ) (ts : List Ticket) (j : ℕ) → k ≤ length ts → place_of v (take k ts) ≡ Some j → (index_of v k ts ≡ j) × (ltb (index_of v k ts) k ≡ true)
-is_found v k ts j l e = go (ltb (index_of v k ts) k) (rw (place_taken v k ts l) at e)
+pub is_found : (v k : ℕ) (ts : List Ticket) (j : ℕ) → k ≤ length ts → place_of v (take k ts) ≡ Some j → (index_of v k ts ≡ j) × (ltb (index_of v k ts) k ≡ true) × (j < k)
+is_found v k ts j l e = go (ltb (index_of v k ts) k) refl (rw (place_taken v k ts l) at e)
   where
-    go : (b : Bool) → cond b (Some (index_of v k ts)) None ≡ Some j → (index_of v k ts ≡ j) × (b ≡ true)
-    go true e = (cc, refl)
-    go false e = absurd (cc)
+    go : (b : Bool) → ltb (index_of v k ts) k ≡ b → cond b (Some (index_of v k ts)) None ≡ Some j → (index_of v k ts ≡ j) × (ltb (index_of v k ts) k ≡ true) × (j < k)
+    go true q e = let i : index_of v k ts ≡ j = cc in (i, q, rw i at (ltb-true (index_of v k ts) k q))
+    go false q e = absurd (cc)
 
 -- ---- and the range of the model
 

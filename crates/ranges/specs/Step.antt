@@ -38,9 +38,9 @@ step_end (refuse n) keys rows ts room = record { answer = Err n; tickets = ts }
 step_end (at j) keys rows ts room =
     record {
       answer = Ok (record {
-          pairs = length (handed keys rows (walk_of (ticket_at ts j)) room);
-          finished = finished keys rows (walk_of (ticket_at ts j)) room;
-        });
+        pairs = length (handed keys rows (walk_of (ticket_at ts j)) room);
+        finished = finished keys rows (walk_of (ticket_at ts j)) room;
+      });
       tickets = set ts j (rest_on (rest_after keys rows (walk_of (ticket_at ts j)) room) (ticket_at ts j));
     }
 

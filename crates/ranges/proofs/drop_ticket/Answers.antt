@@ -1,5 +1,5 @@
 -- `ranges::drop_ticket` meets its contract.
-use Rattle.std.proofs.Common.{◌≡◌, ◌-◌, ◌+◌, sym, ◌∙◌, arith, length}
+use Rattle.std.proofs.Common.{◌≡◌, ◌-◌, ◌+◌, sym, ◌∙◌, arith}
 use Rattle.ranges.proofs.Tickets.{slide_step, slide_end}
 use Rattle.ranges.proofs.drop_ticket.Goals as goal
 

@@ -1,5 +1,5 @@
 -- `ranges::lay` meets its contract.
-use Rattle.std.proofs.Common.{◌≤◌, take, length, arith}
+use Rattle.std.proofs.Common.{take}
 use lib.Seq.{length-take-le}
 use Rattle.ranges.proofs.Walking.{written_front}
 use Rattle.ranges.proofs.lay.Goals as goal
