@@ -56,6 +56,7 @@ pub struct Reason<'a> {
 }
 
 impl fmt::Display for Reason<'_> {
+    // As it is told behind the number of the line.
     fn fmt<W: fmt::Write>(&self, f: &mut fmt::Formatter<W>) -> fmt::Result {
         match self.refusal {
             Refusal::TooLong => f.write_str("longer than 4096 bytes"),
