@@ -14,8 +14,8 @@ pub enum Stop {
     ReaderLeft,
 }
 
-// What was told is no failure of the program: its status says only that the reader left.
 impl From<Stop> for ExitCode {
+    // The status says only that the reader left: the shell tools make one of what was told.
     fn from(stop: Stop) -> ExitCode {
         match stop {
             Stop::Told => ExitCode::SUCCESS,

@@ -3,7 +3,7 @@
 use mathlib.Core.Path.{◌≡◌, refl, sym, ap, ap₂, ◌∙◌}
 use mathlib.Core.Bool.{Bool, true, false, cond}
 use mathlib.Core.List.{List}
-use Prim.Native.Nat.{ℕ, ◌+◌, ◌-◌, ◌*◌, ◌^◌, ◌≤◌, ◌<◌, min}
+use Prim.Native.Nat.{ℕ, ◌+◌, ◌-◌, ◌*◌, ◌^◌, ◌≤◌, ◌<◌}
 use native.Mathlib.Omega.{arith}
 use lib.ListN.{length, take, drop, length-drop}
 use lib.Seq.{length-take-le, drop-drop}
@@ -17,10 +17,6 @@ pub held_length : (w : Window) (b : List ℕ) → Held w (length b) → length (
 held_length w b h = let d = length-drop w.from b in length-take-le (count_of w) (drop w.from b) (omega (arith, h.order, h.inside))
 
 -- ---- behind some bytes
-
--- LAW: a window is known by its places, its count and whether more may follow
-pub behind_from : (w : Window) (k : ℕ) {f : ℕ} → f ≡ min (w.from + k) w.to → record { from = f; to = w.to; read = w.read; more = w.more } ≡ behind w k
-behind_from w k e = rw e
 
 module _ {w : Window} {n k : ℕ} (h : Held w n) (i : k ≤ count_of w) where
   -- LAW: behind some of its bytes a window is held
