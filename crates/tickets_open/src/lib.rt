@@ -16,7 +16,11 @@ const MOST: u32 = 4096;
 fn open_in(count: usize, ranges: u32) -> usize
     ensures { (result ≡ open_in count ranges) × (result ≤ count) }
 {
-    if count == 16 { (ranges as usize).min(16) } else { 0 }
+    if count == 16 {
+        (ranges as usize).min(16)
+    } else {
+        0
+    }
 }
 
 // Finds the first open ticket of that version.

@@ -1,6 +1,5 @@
 -- `tickets_open::find_open` meets its contract.
 use Rattle.std.proofs.Common.{◌∙◌, arith}
-use Rattle.tickets_open.specs.Open.{open_in}
 use Rattle.ranges.proofs.Tickets.{place_taken}
 use Rattle.tickets_open.proofs.find_open.Goals as goal
 
