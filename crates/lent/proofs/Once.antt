@@ -16,7 +16,7 @@ use Rattle.calls.specs.Outcome.{Outcome}
 use Rattle.calls.proofs.Once.{outcome_once}
 use Rattle.batch.specs.Lists.{Output}
 use Rattle.batch.proofs.Once.{ran_once}
-use Rattle.lent.specs.declared.Run.{Run}
+use Rattle.batch.specs.declared.Batch.{Batch}
 use Rattle.lent.specs.Lends.{Lends}
 use Rattle.lent.specs.Forms.{SetsUp, Ranges, Runs, Rooms, rooms, input_from, output_from}
 
@@ -55,5 +55,5 @@ list_once {bytes = bytes} {more = more} before = lends_once (λ x y a b o p.
     let same = ran_once (input_from before bytes more) (output_from x a) (output_from y b) o p in
     (ap (λ (z : Output). rooms z.tables z.answers z.keys z.values) same, ap run_in same))
   where
-    run_in : Output → Run
+    run_in : Output → Batch
     run_in z = record { end = z.end; used = z.used; calls = z.calls; pairs = z.pairs }

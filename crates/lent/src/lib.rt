@@ -2,7 +2,8 @@
 // A run of any other number of tickets is refused, and nothing changes.
 #![tactic(auto)]
 
-ghost use Rattle.std.specs.Prelude.{◌≡◌, true, false, length};
+ghost use Rattle.std.specs.Prelude.{◌≡◌, true, false, length, Err, IsOkAnd};
+ghost use Rattle.model.specs.declared.Refusal.TheVariants.{NotSound};
 ghost use Rattle.soundness.specs.Tested.{lent};
 ghost use Rattle.calls.specs.Entries.{with};
 ghost use Rattle.lent.specs.Forms.{SetsUp, Looks, Nears, Tallies, Inserts, Removes, HandsOver, Sweeps, Opens, Closes, Steps, Ranges, Runs, rooms};
@@ -11,6 +12,14 @@ use batch::{Batch, End};
 use model::{Handed, Refusal, Stepped, Swept, Tallied};
 use sizes::{Node, Version, size_of};
 use tables::{Coordinator, Ticket};
+
+// All sixteen tickets, or the refusal of a run that has another number of them.
+fn sixteen_of(tickets: &[Ticket]) -> Result<&[Ticket; 16], Refusal>
+    ensures sixteen { length tickets.now ≡ 16 → IsOkAnd result (λ all. all.now ≡ tickets.now) }
+    ensures others { (length tickets.now ≡ 16 → ⊥) → result ≡ Err NotSound }
+{
+    tickets.as_array::<16>().ok_or(Refusal::NotSound)
+}
 
 // Set-up: an empty map with no open range.
 pub fn set_up(
@@ -53,9 +62,7 @@ pub fn lookup(
 ) -> Result<i64, Refusal>
     ensures { Looks (length tickets.now) key (lent keys.now values.now rows.now buckets.now tickets.now coordinator.now) (lent keys.now values.now rows.now buckets.now tickets.now coordinator.now) result }
 {
-    let Some(sixteen) = tickets.as_array::<16>() else {
-        return Err(Refusal::NotSound);
-    };
+    let sixteen = sixteen_of(tickets)?;
     calls::lookup(keys, values, rows, buckets, sixteen, *coordinator, key)
 }
 
@@ -71,9 +78,7 @@ pub fn ceil(
 ) -> Result<i64, Refusal>
     ensures { Nears (length tickets.now) key 0 true (lent keys.now values.now rows.now buckets.now tickets.now coordinator.now) (lent keys.now values.now rows.now buckets.now tickets.now coordinator.now) result }
 {
-    let Some(sixteen) = tickets.as_array::<16>() else {
-        return Err(Refusal::NotSound);
-    };
+    let sixteen = sixteen_of(tickets)?;
     calls::ceil(keys, values, rows, buckets, sixteen, *coordinator, key)
 }
 
@@ -89,9 +94,7 @@ pub fn floor(
 ) -> Result<i64, Refusal>
     ensures { Nears (length tickets.now) key 1 true (lent keys.now values.now rows.now buckets.now tickets.now coordinator.now) (lent keys.now values.now rows.now buckets.now tickets.now coordinator.now) result }
 {
-    let Some(sixteen) = tickets.as_array::<16>() else {
-        return Err(Refusal::NotSound);
-    };
+    let sixteen = sixteen_of(tickets)?;
     calls::floor(keys, values, rows, buckets, sixteen, *coordinator, key)
 }
 
@@ -107,9 +110,7 @@ pub fn succ(
 ) -> Result<i64, Refusal>
     ensures { Nears (length tickets.now) key 0 false (lent keys.now values.now rows.now buckets.now tickets.now coordinator.now) (lent keys.now values.now rows.now buckets.now tickets.now coordinator.now) result }
 {
-    let Some(sixteen) = tickets.as_array::<16>() else {
-        return Err(Refusal::NotSound);
-    };
+    let sixteen = sixteen_of(tickets)?;
     calls::succ(keys, values, rows, buckets, sixteen, *coordinator, key)
 }
 
@@ -125,9 +126,7 @@ pub fn pred(
 ) -> Result<i64, Refusal>
     ensures { Nears (length tickets.now) key 1 false (lent keys.now values.now rows.now buckets.now tickets.now coordinator.now) (lent keys.now values.now rows.now buckets.now tickets.now coordinator.now) result }
 {
-    let Some(sixteen) = tickets.as_array::<16>() else {
-        return Err(Refusal::NotSound);
-    };
+    let sixteen = sixteen_of(tickets)?;
     calls::pred(keys, values, rows, buckets, sixteen, *coordinator, key)
 }
 
@@ -142,9 +141,7 @@ pub fn tally(
 ) -> Result<Tallied, Refusal>
     ensures { Tallies (length tickets.now) (lent keys.now values.now rows.now buckets.now tickets.now coordinator.now) (lent keys.now values.now rows.now buckets.now tickets.now coordinator.now) result }
 {
-    let Some(sixteen) = tickets.as_array::<16>() else {
-        return Err(Refusal::NotSound);
-    };
+    let sixteen = sixteen_of(tickets)?;
     calls::tally(keys, values, rows, buckets, sixteen, *coordinator)
 }
 
@@ -162,9 +159,7 @@ pub fn insert(
 ) -> Result<Node, Refusal>
     ensures { Inserts (length tickets.now) key value coin (lent keys.old values.old rows.old buckets.old tickets.now coordinator.now) (lent keys.new values.new rows.new buckets.new tickets.now coordinator.now) result }
 {
-    let Some(sixteen) = tickets.as_array::<16>() else {
-        return Err(Refusal::NotSound);
-    };
+    let sixteen = sixteen_of(tickets)?;
     calls::insert(
         keys,
         values,
@@ -190,9 +185,7 @@ pub fn remove(
 ) -> Result<Node, Refusal>
     ensures { Removes (length tickets.now) key (lent keys.now values.now rows.old buckets.old tickets.now coordinator.now) (lent keys.now values.now rows.new buckets.new tickets.now coordinator.now) result }
 {
-    let Some(sixteen) = tickets.as_array::<16>() else {
-        return Err(Refusal::NotSound);
-    };
+    let sixteen = sixteen_of(tickets)?;
     calls::remove(keys, values, rows, buckets, sixteen, *coordinator, key)
 }
 
@@ -225,9 +218,7 @@ pub fn sweep(
 ) -> Result<Swept, Refusal>
     ensures { Sweeps (length tickets.now) (lent keys.now values.now rows.old buckets.now tickets.now coordinator.old) (lent keys.now values.now rows.new buckets.now tickets.now coordinator.new) result }
 {
-    let Some(sixteen) = tickets.as_array::<16>() else {
-        return Err(Refusal::NotSound);
-    };
+    let sixteen = sixteen_of(tickets)?;
     calls::sweep(keys, values, rows, buckets, sixteen, coordinator)
 }
 
@@ -313,9 +304,7 @@ pub fn fast_range(
 ) -> Result<u32, Refusal>
     ensures { Ranges (length tickets.now) low high (with (lent keys.now values.now rows.now buckets.now tickets.now coordinator.now) out_keys.old out_values.old) (with (lent keys.now values.now rows.now buckets.now tickets.now coordinator.now) out_keys.new out_values.new) result }
 {
-    let Some(sixteen) = tickets.as_array::<16>() else {
-        return Err(Refusal::NotSound);
-    };
+    let sixteen = sixteen_of(tickets)?;
     calls::fast_range(
         keys,
         values,

@@ -17,7 +17,7 @@ use Rattle.calls.specs.Entries as E
 use Rattle.batch.specs.declared.End.{End}
 use Rattle.batch.specs.Cells.{cells_of}
 use Rattle.batch.proofs.Refusals.{inserted_refused, removed_refused, handed_refused, ranged_refused, opened_refused, stepped_refused, closed_refused, swept_refused}
-use Rattle.lent.specs.declared.Run.{Run}
+use Rattle.batch.specs.declared.Batch.{Batch}
 use Rattle.lent.specs.Forms.{SetsUp, Looks, Nears, Tallies, Inserts, Removes, HandsOver, Sweeps, Opens, Closes, Steps, Ranges, Rooms, Runs}
 use Rattle.lent.proofs.Unchanged as L
 use Rattle.lopresnik.specs.declared.Ran.{Ran}
@@ -40,7 +40,7 @@ cells_unchanged code of same = gives_unchanged (λ cells. refusal_in cells ≢ p
 
 -- ---- LAWS: each exported function, with so many tickets
 
-set_up_tells : (P : Result ⊤ Refusal → Type 0) → ((m : ℕ) → P (Err m)) → (a : Result ⊤ Refusal) → refusal a ≢ 0 → P a
+set_up_tells : (P : Result ⊤ Refusal → Type 0) → ((m : Refusal) → P (Err m)) → (a : Result ⊤ Refusal) → refusal a ≢ 0 → P a
 set_up_tells P p (Ok tt) e = absurd (e refl)
 set_up_tells P p (Err m) e = p m
 
@@ -86,7 +86,7 @@ module _ (n : ℕ) (x y : E.Lent) (cells : List ℤ) (e : refusal_in cells ≢ p
   step_unchanged v = cells_unchanged 10 (of_stepped [] []) (stepped_refused [] [] (λ a. Steps n v x y a → y ≡ x) (L.step_unchanged n v x y)) e
 
 -- a list that ended as refused: with 4
-end_tells : (P : Type 0) (end : End) → ((m : ℕ) → end ≡ End.Refused m → P) → (ending end).0 ≡ 4 → P
+end_tells : (P : Type 0) (end : End) → ((m : Refusal) → end ≡ End.Refused m → P) → (ending end).0 ≡ 4 → P
 end_tells P End.Ended p e = absurd (omega arith)
 end_tells P (End.Stop place) p e = absurd (omega arith)
 end_tells P End.More p e = absurd (omega arith)
@@ -95,4 +95,4 @@ end_tells P (End.Refused m) p e = p m refl
 
 pub list_unchanged : (n : ℕ) (bytes : List ℕ) (more : Bool) (x y : Rooms) (r : Ran) → r.end ≡ 4 → Gives (Runs n bytes more x y) ran r → y ≡ x
 list_unchanged n bytes more x y r =
-    gives_unchanged (λ (z : Ran). z.end ≡ 4) (λ (a : Run) e. end_tells (Runs n bytes more x y a → y ≡ x) a.end (L.list_unchanged n bytes more x y a) e)
+    gives_unchanged (λ (z : Ran). z.end ≡ 4) (λ (a : Batch) e. end_tells (Runs n bytes more x y a → y ≡ x) a.end (L.list_unchanged n bytes more x y a) e)

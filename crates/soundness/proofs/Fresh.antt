@@ -1,11 +1,10 @@
 -- Set-up makes sound tables that show the model's state after set-up; a refusal leaves them as they were.
 -- Assumes nothing.
-use Rattle.std.specs.Prelude.{Ok, Err, Some, None, Option as Optional}
-use Rattle.model.specs.declared.Refusal.TheVariants.{NotSound, NoSuchCapacity}
 use mathlib.Core.Path.{◌≡◌, refl, sym, ap, ◌∙◌}
 use mathlib.Core.Bool.{Bool, true, false, cond}
 use mathlib.Core.List.{List, []}
 use mathlib.Core.Option.{none, some}
+use Rattle.std.specs.Prelude.{Option, Some, None, Result, Ok, Err, ⊤}
 use Prim.Native.Nat.{ℕ, ◌<◌, ◌+◌, ◌*◌}
 use native.Mathlib.Omega.{arith}
 use lib.ListN.{length, replicate, length-replicate}
@@ -30,6 +29,8 @@ use Rattle.places.proofs.Counting.{cleared_counted}
 use Rattle.places.proofs.Frames.{Same, same_free, same_ring, same_counted, same_kept}
 use Rattle.buckets.specs.Buckets.{Buckets, Present}
 use Rattle.buckets.proofs.Keeping.{buckets_fresh}
+use Rattle.model.specs.declared.Refusal.{Refusal}
+use Rattle.model.specs.declared.Refusal.TheVariants.{NotSound, NoSuchCapacity}
 use Rattle.model.specs.Model as M
 use Rattle.model.proofs.Order.{and_left, and_right}
 use Rattle.model.proofs.Reached.{well_fresh}
@@ -45,7 +46,7 @@ module _ (rows : List ℕ) (cap : ℕ) (size : length rows ≡ (cap + 2) * 32) (
   abbrev free : List ℕ
   free = P.cleared rows cap
 
-  sized : Optional Size rows cap
+  sized : Sized rows cap
   sized = record { size = size; small = (capacity cap known).most }
 
   free_size : length free ≡ (cap + 2) * 32
@@ -91,6 +92,10 @@ module _ (rows : List ℕ) (cap : ℕ) (size : length rows ≡ (cap + 2) * 32) (
 
 -- ---- the tables
 
+-- what clearing the rows relies on
+pub rows_sized : (rows : List ℕ) (cap : ℕ) (s : Size) → size_of cap ≡ Some s → {keys values buckets : ℕ} → Parts s keys values (length rows) buckets → Sized rows cap
+rows_sized rows cap s e p = sized rows cap (p.rowed ∙ ap (λ (n : ℕ). (n + 2) * 32) (size_rule cap s e).asked) (capacity_of_lem cap s e)
+
 module _ (t : Tables) (cap : ℕ) (start : Version) (s : Size) (e : size_of cap ≡ Some s) (p : Parts s (length t.keys) (length t.values) (length t.rows) (length t.buckets)) where
   asked : s.capacity ≡ cap
   asked = (size_rule cap s e).asked
@@ -103,10 +108,6 @@ module _ (t : Tables) (cap : ℕ) (start : Version) (s : Size) (e : size_of cap 
 
   rowed : length t.rows ≡ (cap + 2) * 32
   rowed = p.rowed ∙ ap (λ (n : ℕ). (n + 2) * 32) asked
-
-  -- what clearing the rows relies on
-  pub rows_sized : Optional Size t.rows cap
-  rows_sized = sized t.rows cap rowed known
 
   abbrev new : Tables
   new = fresh_tables t cap start
@@ -170,20 +171,16 @@ fits_says s t =
           );
     }
 
--- a refusal is not done
-refused_done : {A : Type 0} (n : ℕ) → Err n ≡ (Ok tt) → A
-refused_done n e = let z : ◌≡◌ {A = ℕ} 0 1 = cc in absurd (omega arith)
-
--- LAW: refused with 2 exactly where the model's set-up gives no state
+-- LAW: refused for its capacity exactly where the model's set-up gives no state
 pub unknown_model : (t : Tables) (cap start : ℕ) → set_up_answer t cap ≡ Err NoSuchCapacity → M.set_up cap start ≡ none
 unfolding set_up_answer M.set_up
 unknown_model t cap start e = go (size_of cap) e
   where
-    other : (b : Bool) → cond b (Ok tt) (Err NotSound) ≡ Err NoSuchCapacity → ⊥
-    other true f = refused_done 2 (sym f)
-    other false f = let z : ◌≡◌ {A = ℕ} 1 2 = cc in omega arith
+    other : (b : Bool) → cond {A = Result ⊤ Refusal} b (Ok tt) (Err NotSound) ≡ Err NoSuchCapacity → ⊥
+    other true f = cc
+    other false f = cc
 
-    go : (z : Optional Size) → answer_in z t ≡ Err NoSuchCapacity → M.fresh_of start z ≡ none
+    go : (z : Option Size) → answer_in z t ≡ Err NoSuchCapacity → M.fresh_of start z ≡ none
     go None f = refl
     go (Some s) f = absurd (other (fits s t) f)
 
@@ -191,18 +188,18 @@ pub model_unknown : (t : Tables) (cap start : ℕ) → M.set_up cap start ≡ no
 unfolding set_up_answer M.set_up
 model_unknown t cap start e = go (size_of cap) e
   where
-    go : (z : Optional Size) → M.fresh_of start z ≡ none → answer_in z t ≡ Err NoSuchCapacity
+    go : (z : Option Size) → M.fresh_of start z ≡ none → answer_in z t ≡ Err NoSuchCapacity
     go None f = refl
-    go (Some s) f = let z : ◌≡◌ {A = ℕ} 0 1 = cc in absurd (omega arith)
+    go (Some s) f = cc
 
 module _ (t : Tables) (cap : ℕ) (start : Version) where
-  refused : (n : ℕ) → set_up_answer t cap ≡ Err n → SetUpBy t t cap start (Err n)
-  refused n e = record { answer = sym e; tables = rw e; sound = λ d. refused_done n d; model = λ d. refused_done n d }
+  refused : (n : Refusal) → set_up_answer t cap ≡ Err n → SetUpBy t t cap start (Err n)
+  refused n e = record { answer = sym e; tables = rw e; sound = λ d. cc; model = λ d. cc }
 
   -- LAW: no such capacity
   pub set_up_unknown : size_of cap ≡ None → SetUpBy t t cap start (Err NoSuchCapacity)
   unfolding set_up_answer
-  set_up_unknown e = refused 2 (rw e)
+  set_up_unknown e = refused NoSuchCapacity (rw e)
 
   module _ (s : Size) (e : size_of cap ≡ Some s) (r : Bool) (h : Says r (Parts s (length t.keys) (length t.values) (length t.rows) (length t.buckets))) where
     tested : (b : Bool) → r ≡ b → set_up_answer t cap ≡ cond b (Ok tt) (Err NotSound)
@@ -211,7 +208,7 @@ module _ (t : Tables) (cap : ℕ) (start : Version) where
 
     -- LAW: a part has the wrong length
     pub set_up_short : r ≡ false → SetUpBy t t cap start (Err NotSound)
-    set_up_short q = refused 1 (tested false q)
+    set_up_short q = refused NotSound (tested false q)
 
     done : r ≡ true → SetUpBy t (fresh_tables t cap start) cap start (Ok tt)
     done q =
@@ -232,5 +229,5 @@ module _ (t : Tables) (cap : ℕ) (start : Version) where
         rw (a, b, c, n, ← l) (done q)
 
 -- LAW: a refused set-up leaves the tables as they were, cell by cell
-pub set_up_unchanged : (t t' : Tables) (capacity : ℕ) (start : Version) (n : ℕ) → SetUpBy t t' capacity start (Err n) → t' ≡ t
+pub set_up_unchanged : (t t' : Tables) (capacity : ℕ) (start : Version) (n : Refusal) → SetUpBy t t' capacity start (Err n) → t' ≡ t
 set_up_unchanged t t' capacity start n o = o.tables ∙ ap (λ a. tables_after a t capacity start) (sym o.answer)

@@ -1,7 +1,6 @@
 -- What the soundness test looks at, said over the cells. That this comes to `Sound` is proved (proofs/Deciding).
 -- Assumes nothing.
-use Rattle.std.specs.Prelude.{Some}
-use Rattle.std.specs.Prelude.{◌≡◌, ◌⊎◌, ◌≢◌, Bool, List, [], ◌∷◌, ℕ, ◌+◌, ◌*◌, ◌<◌, ◌≤◌, length, get_or, take, drop, eqb, ℤ}
+use Rattle.std.specs.Prelude.{◌≡◌, ◌⊎◌, ◌≢◌, Bool, List, [], ◌∷◌, ℕ, ◌+◌, ◌*◌, ◌<◌, ◌≤◌, length, get_or, take, drop, eqb, ℤ, Some}
 use Rattle.lists.specs.Holds.{All, Pairwise}
 use Rattle.lists.specs.Filters.{filter}
 use Rattle.sizes.specs.declared.Size.{Size}

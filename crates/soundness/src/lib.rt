@@ -70,9 +70,10 @@ fn order_ok(keys: &[u64], rows: &[u32], cap: u32, n: u32, next: u32) -> bool
     let key = keys[n as usize];
     let later = keys[next as usize];
     if cell(rows, n, Column::Place) == IS_PRESENT {
-        return key < later;
+        key < later
+    } else {
+        key <= later
     }
-    key <= later
 }
 
 // Whether the nodes of the lowest level are in use, in time and in order, are all that are not free, and include as many retired ones as the ring. One walk.
@@ -91,17 +92,13 @@ fn nodes_ok(keys: &[u64], rows: &[u32], cap: u32, counter: Version) -> bool
         if !order_ok(keys, rows, cap, n, next) {
             return false;
         }
-        let place = cell(rows, n, Column::Place);
-        n = next;
-        linked += 1;
-        if place == IS_RETIRED {
+        if cell(rows, n, Column::Place) == IS_RETIRED {
             retired += 1;
         }
+        linked += 1;
+        n = next;
     }
-    if linked + cell(rows, cap, Column::Free) != cap {
-        return false;
-    }
-    retired == cell(rows, cap + 1, Column::Ring)
+    linked + cell(rows, cap, Column::Free) == cap && retired == cell(rows, cap + 1, Column::Ring)
 }
 
 // Whether the ticket rests on the tail, or on a linked node that its range may rest on and whose key is not below the lower bound.
@@ -109,31 +106,15 @@ fn rest_ok(keys: &[u64], rows: &[u32], cap: u32, ticket: Ticket) -> bool
     requires { Ready keys.now rows.now cap }
     ensures { Says result (Rests keys.now rows.now cap ticket) }
 {
-    let rest = ticket.rest;
-    let n = rest.0;
-    if n == cap + 1 {
-        return true;
-    }
+    let n = ticket.rest.0;
     if n >= cap {
-        return false;
+        return n == cap + 1;
     }
     let place = cell(rows, n, Column::Place);
-    if place == IS_FREE {
+    if place == IS_FREE || ticket.version.0 <= inserted(rows, n).0 || keys[n as usize] < ticket.low {
         return false;
     }
-    let version = ticket.version;
-    let born = inserted(rows, n);
-    if version.0 <= born.0 {
-        return false;
-    }
-    if keys[n as usize] < ticket.low {
-        return false;
-    }
-    if place == IS_PRESENT {
-        return true;
-    }
-    let gone = removed(rows, n);
-    version.0 <= gone.0
+    place == IS_PRESENT || ticket.version.0 <= removed(rows, n).0
 }
 
 // Whether the open tickets stand in the order of their versions, none above the counter, and each rests where it may.
@@ -159,9 +140,10 @@ fn ring_node(rows: &[u32], cap: u32, i: u32) -> u32
 {
     let at = cell(rows, cap, Column::Ring) + i;
     if at < cap {
-        return cell(rows, at, Column::Ring);
+        cell(rows, at, Column::Ring)
+    } else {
+        cell(rows, at - cap, Column::Ring)
     }
-    cell(rows, at - cap, Column::Ring)
 }
 
 // Whether the nodes of the ring from `start` on, so many, were removed before the version.

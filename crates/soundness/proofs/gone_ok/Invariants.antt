@@ -1,5 +1,5 @@
 -- `soundness::gone_ok` meets its contract. The invariant: the nodes passed were removed before the version.
-use Prim.Native.Nat.{◌+◌, ◌-◌, ◌<◌, ◌≤◌}
+use Prim.Native.Nat.{◌<◌, ◌≤◌}
 use lib.ListN.{get_or}
 use Rattle.lists.specs.Tests.{Each}
 use Rattle.rows.specs.Rows.{removals}
@@ -7,7 +7,4 @@ use Rattle.places.specs.Places.{ring_of}
 use Rattle.soundness.proofs.gone_ok.Given as goal
 
 abbrev pub invariant-loop-i : goal.invariant-loop-i
-invariant-loop-i l = (l.i ≤ l.size) × Each l.i (λ k. removals l.rows (get_or (ring_of l.rows l.cap) (l.start + k) 0) < l.version.0)
-
-abbrev pub decreases-loop-i : goal.decreases-loop-i
-decreases-loop-i l = l.size - l.i
+invariant-loop-i l = Each l.i (λ k. l.start ≤ k → removals l.rows (get_or (ring_of l.rows l.cap) k 0) < l.version.0)

@@ -1,37 +1,24 @@
 -- `soundness::nodes_ok` meets its contract. The invariant: the level is a line exactly when what lies onward is. The measure is what lies onward.
-use mathlib.Core.Path.{sym, ◌∙◌}
-use mathlib.Core.Bool.{true, false}
+use mathlib.Core.Path.{◌≡◌, sym, ◌∙◌}
+use mathlib.Core.Bool.{Bool, true, false}
 use native.Mathlib.Omega.{arith}
 use borrow.Author.Tests.{eq-eqb, ne_eqb}
 use Rattle.lists.proofs.Answers.{no, failed, passed}
 use Rattle.lists.proofs.Comparing.{says_eq}
 use Rattle.levels.proofs.Nearing.{walk_less}
+use Rattle.soundness.specs.Tested.{is_retired}
 use Rattle.soundness.proofs.Walking.{walking_start, walking_room, walking_timed, walking_next, walking_on, walked_line, walked_all, walked_old, walked_few}
 use Rattle.soundness.proofs.nodes_ok.Goals as goal
-
-pub link-n-requires : goal.link-n-requires
-link-n-requires c = omega arith
+use Rattle.soundness.proofs.nodes_ok.Goals.{then-cell-eq-IS_RETIRED, else-cell-eq-IS_RETIRED}
 
 pub loop-n-init : goal.loop-n-init
 loop-n-init c = walking_start _ _ _ _ c.requires.1 _ c.link-n.ensures
 
-pub node_ok-requires : goal.node_ok-requires
-node_ok-requires c = omega arith
-
 pub returns-then-not-node_ok : goal.returns-then-not-node_ok
 returns-then-not-node_ok c = no (λ N. failed c.node_ok.ensures c.if-not-node_ok.true (walking_timed _ _ _ _ _ _ _ c.loop-n.invariant c.loop-n-test.true N.line))
 
-pub link-next-requires : goal.link-next-requires
-link-next-requires c = omega arith
-
-pub order_ok-requires : goal.order_ok-requires
-order_ok-requires c = (c.requires.0, c.loop-n-test.true)
-
 pub returns-then-not-order_ok : goal.returns-then-not-order_ok
 returns-then-not-order_ok c = no (λ N. failed (rw c.link-next.ensures at c.order_ok.ensures) c.if-not-order_ok.true (walking_next _ _ _ _ _ _ _ c.loop-n.invariant c.loop-n-test.true N.line))
-
-pub cell-place-requires : goal.cell-place-requires
-cell-place-requires c = omega arith
 
 pub overflow_add-linked : goal.overflow_add-linked
 overflow_add-linked c = omega (arith, walking_room _ _ _ _ _ _ _ c.loop-n.invariant c.loop-n-test.true, c.requires.0.small)
@@ -39,49 +26,37 @@ overflow_add-linked c = omega (arith, walking_room _ _ _ _ _ _ _ c.loop-n.invari
 pub overflow_add-retired : goal.overflow_add-retired
 overflow_add-retired c = omega (arith, c.loop-n.invariant.fewer, walking_room _ _ _ _ _ _ _ c.loop-n.invariant c.loop-n-test.true, c.requires.0.small)
 
-pub loop-n-smaller-then-place-eq-IS_RETIRED : goal.loop-n-smaller-then-place-eq-IS_RETIRED
-loop-n-smaller-then-place-eq-IS_RETIRED c = rw c.link-next.ensures (walk_less _ _ _ _ c.loop-n.invariant.stand c.loop-n-test.true)
-
-pub loop-n-preserved-then-place-eq-IS_RETIRED : goal.loop-n-preserved-then-place-eq-IS_RETIRED
-loop-n-preserved-then-place-eq-IS_RETIRED c =
-    rw c.link-next.ensures
-    (walking_on _ _ _ _ _ _ _ c.loop-n.invariant c.loop-n-test.true true (eq-eqb _ _ (sym c.cell-place.ensures ∙ c.if-place-eq-IS_RETIRED.true))
-    (passed c.node_ok.ensures c.if-not-node_ok.false) (passed (rw c.link-next.ensures at c.order_ok.ensures) c.if-not-order_ok.false))
-
 pub loop-n-smaller : goal.loop-n-smaller
 loop-n-smaller c = rw c.link-next.ensures (walk_less _ _ _ _ c.loop-n.invariant.stand c.loop-n-test.true)
 
 pub loop-n-preserved : goal.loop-n-preserved
 loop-n-preserved c =
+    let on = λ (b : Bool) (e : is_retired c.args.rows.now c.loop-n.n ≡ b).
+    walking_on _ _ _ _ _ _ _ c.loop-n.invariant c.loop-n-test.true b e (passed c.node_ok.ensures c.if-not-node_ok.false)
+    (passed (rw c.link-next.ensures at c.order_ok.ensures) c.if-not-order_ok.false) in
     rw c.link-next.ensures
-    (walking_on _ _ _ _ _ _ _ c.loop-n.invariant c.loop-n-test.true false (ne_eqb _ _ (λ e. c.if-place-eq-IS_RETIRED.false (c.cell-place.ensures ∙ e)))
-    (passed c.node_ok.ensures c.if-not-node_ok.false) (passed (rw c.link-next.ensures at c.order_ok.ensures) c.if-not-order_ok.false))
-
-pub cell-requires : goal.cell-requires
-cell-requires c = omega arith
+    (elim c.if-cell-eq-IS_RETIRED.branch [
+      then-cell-eq-IS_RETIRED w ↦ rw w.retired-is (on true (eq-eqb _ _ (sym c.cell.ensures ∙ w.if-cell-eq-IS_RETIRED.true)))
+    | else-cell-eq-IS_RETIRED w ↦ rw w.retired-is (on false (ne_eqb _ _ (λ e. w.if-cell-eq-IS_RETIRED.false (c.cell.ensures ∙ e))))
+    ])
 
 pub overflow_add-linked-2 : goal.overflow_add-linked-2
-overflow_add-linked-2 c = omega (arith, walked_few _ _ _ _ _ _ _ c.loop-n.invariant c.loop-n-test.false, c.cell.ensures, c.requires.2.spares, c.requires.0.small)
+overflow_add-linked-2 c = omega (arith, walked_few _ _ _ _ _ _ _ c.loop-n.invariant c.loop-n-test.false, c.cell-2.ensures, c.requires.2.spares, c.requires.0.small)
 
 pub returns-then-linked-cell : goal.returns-then-linked-cell
-returns-then-linked-cell c = no (λ N. absurd (omega (arith, N.full, walked_all _ _ _ _ _ _ _ c.loop-n.invariant c.loop-n-test.false, c.cell.ensures, c.if-linked-cell.true)))
-
-pub overflow_add-cap : goal.overflow_add-cap
-overflow_add-cap c = omega arith
-
-pub cell-requires-2 : goal.cell-requires-2
-cell-requires-2 c = omega arith
-
-pub returns : goal.returns
-returns c =
+returns-then-linked-cell c =
     let w = c.loop-n.invariant in
     let l = c.loop-n-test.false in
-    rw c.cell-2.ensures
+    rw c.cell-then-linked-cell.ensures
     (says_eq
     (λ e.
     record {
       line = walked_line _ _ _ _ _ _ _ w l;
-      full = omega (arith, walked_all _ _ _ _ _ _ _ w l, c.cell.ensures, c.if-linked-cell.false);
+      full = omega (arith, walked_all _ _ _ _ _ _ _ w l, c.cell-2.ensures, c.if-linked-cell.true);
       whole = sym (walked_old _ _ _ _ _ _ _ w l) ∙ e;
     })
     (λ N. walked_old _ _ _ _ _ _ _ w l ∙ N.whole))
+
+pub returns-else-linked-cell : goal.returns-else-linked-cell
+returns-else-linked-cell c =
+    says_eq (λ e. absurd (c.if-linked-cell.false e)) (λ N. omega (arith, N.full, walked_all _ _ _ _ _ _ _ c.loop-n.invariant c.loop-n-test.false, c.cell-2.ensures))
