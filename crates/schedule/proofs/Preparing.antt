@@ -1,8 +1,6 @@
 -- Set-up on memory that is cut to the capacity: its result, and the tables afterwards.
 -- Assumes nothing.
 use Rattle.std.specs.Prelude.{Result, Ok, Err, Some, None, ⊤, Option}
-use Rattle.model.specs.declared.Refusal.{Refusal}
-use Rattle.model.specs.declared.Refusal.TheVariants.{NotSound}
 use mathlib.Core.Path.{◌≡◌, refl, sym, ap, ap₂, ◌∙◌, subst}
 use mathlib.Core.Bool.{Bool, true, false, cond}
 use mathlib.Core.List.{List, [], ◌∷◌, ◌++◌}
@@ -16,13 +14,17 @@ use Rattle.lists.specs.Holds.{All}
 use Rattle.sizes.specs.declared.Version.{Version}
 use Rattle.sizes.specs.declared.Size.{Size}
 use Rattle.sizes.specs.Sizes.{sizes, seek, size_of}
+use Rattle.model.specs.declared.Refusal.{Refusal}
+use Rattle.model.specs.declared.Refusal.TheVariants.{NotSound}
 use Rattle.tables.specs.declared.Ticket.{Ticket}
 use Rattle.tables.specs.declared.Coordinator.{Coordinator}
 use Rattle.tables.specs.Tables.{Tables}
 use Rattle.soundness.specs.Tested.{lent}
 use Rattle.soundness.specs.SetUp.{fits, answer_in, set_up_answer, set_up_tables, SetUpBy}
 use Rattle.schedule.specs.declared.Lengths.{Lengths}
-use Rattle.schedule.specs.SetUps.{result_in, set_up_result, answer_number, Memory, memory_of, Whole, lengths_of, cut, PreparedBy}
+use Rattle.schedule.specs.declared.Memory.{Memory}
+use Rattle.schedule.specs.declared.Session.{Session}
+use Rattle.schedule.specs.SetUps.{result_in, set_up_result, answer_number, Whole, lengths_of, cut, PreparedBy}
 
 -- ---- the parts that are lent are parts of the memory
 
@@ -93,8 +95,8 @@ done_of (Some size) t e = go (fits size t) refl
     go false f = let z : ◌≡◌ {A = ℕ} 1 0 = rw f at e in absurd (omega arith)
 
 module _ {m : Memory} (capacity : ℕ) (start : Version) {l : Lengths} {tickets tickets' : List Ticket} {co co' : Coordinator} {a : Result ⊤ Refusal} {rows' buckets' : List ℕ}
-    (w : Whole m) (e : l ≡ lengths_of (size_of capacity))
-    (s : SetUpBy (cut m l tickets co) (lent (take l.nodes m.keys) (take l.nodes m.values) rows' buckets' tickets' co') capacity start a)
+    (s : Session) (w : Whole m) (e : l ≡ lengths_of (size_of capacity))
+    (y : SetUpBy (cut m l tickets co) (lent (take l.nodes m.keys) (take l.nodes m.values) rows' buckets' tickets' co') capacity start a)
     (r : length rows' ≡ length (take l.rows m.rows)) (b : length buckets' ≡ length (take l.buckets m.buckets)) where
   abbrev t : Tables
   t = cut m l tickets co
@@ -104,7 +106,7 @@ module _ {m : Memory} (capacity : ℕ) (start : Version) {l : Lengths} {tickets 
 
   answer_is : a ≡ answer_in (size_of capacity) t
   unfolding set_up_answer
-  answer_is = s.answer
+  answer_is = y.answer
 
   result_is : answer_number a ≡ set_up_result capacity
   result_is = ap answer_number answer_is ∙ go (size_of capacity) refl
@@ -128,26 +130,26 @@ module _ {m : Memory} (capacity : ℕ) (start : Version) {l : Lengths} {tickets 
   tables_same n = go (set_up_answer t capacity) refl
     where
       go : (x : Result ⊤ Refusal) → set_up_answer t capacity ≡ x → set_up_tables t capacity start ≡ t
-      go (Ok tt) q = absurd (n (ap answer_number (s.answer ∙ q)))
+      go (Ok tt) q = absurd (n (ap answer_number (y.answer ∙ q)))
       go (Err k) q = rw q
 
   -- LAW: what set-up leaves of the memory, and its result
-  pub prepared : {n : ℕ} → n ≡ answer_number a
-      → PreparedBy m (memory_of m.keys m.values (rows' ++ drop l.rows m.rows) (buckets' ++ drop l.buckets m.buckets)) capacity start
-      (record { result = n; lengths = l; tickets = tickets'; coordinator = co' })
-  prepared n =
+  pub prepared : PreparedBy m s (record m { rows = rows' ++ drop l.rows m.rows; buckets = buckets' ++ drop l.buckets m.buckets })
+      (record s { lengths = l; tickets = tickets'; coordinator = co' }) capacity start (answer_number a)
+  prepared =
       record {
-        result = n ∙ result_is;
+        result = result_is;
         lengths = e;
         fresh =
             λ z.
-            (let d : a ≡ (Ok tt) = answer_is ∙ done_of (size_of capacity) t (sym (ap answer_number answer_is) ∙ (sym n ∙ z)) in
+            (let d : a ≡ Ok tt = answer_is ∙ done_of (size_of capacity) t (sym (ap answer_number answer_is) ∙ z) in
             rw (part_front m.rows rows' l.rows r f.of_rows, part_front m.buckets buckets' l.buckets b f.of_buckets)
-            (record { sound = s.sound d; shows = s.model d }));
+            (record { sound = y.sound d; shows = y.model d }));
         same =
             λ z.
-            (let q = s.tables ∙ tables_same (λ y. z (n ∙ y)) in
-            ap₂ (λ (x y : List ℕ). memory_of m.keys m.values x y)
+            (let q = y.tables ∙ tables_same z in
+            ap₂ (λ (x y : List ℕ). record m { rows = x; buckets = y })
             (ap (λ (x : Tables). x.rows ++ drop l.rows m.rows) q ∙ take-append-drop l.rows m.rows)
             (ap (λ (x : Tables). x.buckets ++ drop l.buckets m.buckets) q ∙ take-append-drop l.buckets m.buckets));
+        window = refl;
       }
