@@ -11,15 +11,16 @@ use lib.ListN.{length, get_or, take, drop, length-drop}
 use lib.Seq.{take-add, drop-drop, get_or-drop}
 use Rattle.groups.specs.Groups.{Begun, Stands}
 use Rattle.groups.proofs.Standing.{stands_some, stands_first}
-use Rattle.groups.proofs.Scanning.{Met, going_none, going_one}
 use Rattle.transactions.specs.declared.Three.{Three}
 use Rattle.transactions.specs.declared.Call.{Call}
+use Rattle.transactions.specs.declared.Halt.{Halt}
+use Rattle.transactions.specs.declared.Halt.TheVariants.{Stop, More}
 use Rattle.transactions.specs.Sequences.{Sequence, listed, Reached, Stops, Stopped, Waits}
-use Rattle.transactions.specs.Calls.{small, operands_of, call_limit, numbers_of}
-use Rattle.transactions.specs.Readings.{StopsAt, WholeCall, WholeHeader}
+use Rattle.transactions.specs.Calls.{operands_of, call_limit, numbers_of}
+use Rattle.transactions.specs.Readings.{Halts, WholeCall}
 use Rattle.transactions.specs.Inner.{WholeNumbers, CodeRead, NoCode}
 use Rattle.transactions.proofs.Sequencing.{reached_none}
-use Rattle.transactions.proofs.Running.{Due, due_well}
+use Rattle.transactions.proofs.Running.{Due}
 
 -- a code is due first
 pub code_due : (bytes : List ℕ) (at : ℕ) → Due call_limit bytes at at 13
@@ -30,21 +31,6 @@ no_code bytes at none n len s l =
     let inside : at < length bytes = omega (arith, s.inside, stands_some s, length-drop at bytes) in
     let e : get_or bytes at 0 ≡ n = ap (λ k. get_or bytes k 0) (sym (add-zero at)) ∙ sym (get_or-drop at bytes 0 0) ∙ stands_first (omega arith) s in
     omega (arith, none inside, e)
-
-pub code_read : (bytes : List ℕ) (at : ℕ) {code len : ℕ} → Stands (drop at bytes) code len → code ≤ 13 → CodeRead (drop at bytes) at code (at + len)
-unfolding code_due
-code_read bytes at {code} {len} s l = record { offset = 0 + len; is = omega arith; reached = due_well (code_due bytes at) s l }
-
--- a code of one byte
-pub code_byte : (bytes : List ℕ) (at : ℕ) {code : ℕ} → at < length bytes → code ≡ get_or bytes at 0 → code ≤ 13 → CodeRead (drop at bytes) at code (at + 1)
-code_byte bytes at {code} inside is l =
-    let m : Met (drop at bytes) 0 1 0 code = record {
-      going = going_none (drop at bytes);
-      more = simp length-drop (omega arith);
-      is = get_or-drop at bytes 0 0 ∙ ap (λ k. get_or bytes k 0) (add-zero at) ∙ sym is;
-      byte = omega arith;
-    } in
-    code_read bytes at (going_one m (omega arith) refl) l
 
 -- numbers behind a first one
 module _ (limit : List ℕ → Option ℕ) (rest : List ℕ) (code o : ℕ) (r : Reached limit rest (code ∷ []) o) where
@@ -102,21 +88,10 @@ module _ (bytes : List ℕ) {at code place : ℕ} (c : CodeRead (drop at bytes) 
         written = rw l (record { sequence = rw e r.before; within = rw e r.within });
       }
 
-  pub operands_stop : {more : Bool} {stop : ℕ} → StopsAt (listed (operands_of code)) (drop place bytes) place more stop → StopsAt call_limit (drop at bytes) at more stop
-  operands_stop {more} s = record {
+  pub operands_halt : (more : Bool) (h : Halt) → Halts (listed (operands_of code)) (drop place bytes) place more h → Halts call_limit (drop at bytes) at more h
+  operands_halt more (Stop stop) s = record {
     offset = c.offset + s.offset;
     is = omega (arith, s.is, c.is);
     stopped = stopped_behind call_limit (drop at bytes) code c.offset c.reached (subst (λ (l : List ℕ). Stopped (listed (operands_of code)) l more s.offset) left s.stopped);
   }
-
-  pub operands_waits : {more : Bool} → Waits (listed (operands_of code)) (drop place bytes) more → Waits call_limit (drop at bytes) more
-  operands_waits {more} w = waits_behind call_limit (drop at bytes) code c.offset c.reached (subst (λ (l : List ℕ). Waits (listed (operands_of code)) l more) left w)
-
--- a header is made of its two numbers
-pub header_whole : {rest : List ℕ} {three : Three} {place : ℕ} (capacity start : ℕ) → WholeNumbers (small ∷ small ∷ []) rest 0 three place → capacity ≡ three.first → start ≡ three.second → WholeHeader rest (record { capacity = capacity; start = record { 0 = start } }) place
-header_whole {rest} {three} {place} capacity start w e f =
-    let l : place ≡ w.offset = omega (arith, w.is) in
-    record {
-      inside = rw l w.reached.inside;
-      written = rw l (record { sequence = rw (e, f) w.reached.before; within = rw (e, f) w.reached.within });
-    }
+  operands_halt more More w = waits_behind call_limit (drop at bytes) code c.offset c.reached (subst (λ (l : List ℕ). Waits (listed (operands_of code)) l more) left w)

@@ -1,6 +1,6 @@
 -- Laws of numbers one after another: their bytes, and one number more.
 -- Assumes nothing.
-use Prim.Native.Nat.{ℕ, zero, suc, ◌+◌, ◌^◌, ◌≤◌, ◌<◌}
+use Prim.Native.Nat.{ℕ, ◌+◌, ◌^◌, ◌≤◌, ◌<◌}
 use mathlib.Core.Path.{◌≡◌, refl, sym, ap, ap₂, subst, ◌∙◌}
 use mathlib.Core.List.{List, [], ◌∷◌, ◌++◌, append_assoc, append-nil}
 use mathlib.Core.Option.{Option, none, some}
@@ -9,6 +9,9 @@ use native.Mathlib.Numerals.{add-one}
 use native.Mathlib.Nat.{zero-add}
 use lib.ListN.{length, get_or, take, drop, take-append-drop, length-append, length-drop}
 use lib.Seq.{sets, take-suc, take-add, take_at, length-take-le}
+use Rattle.std.specs.Prelude.{sum_by}
+use Rattle.std.proofs.lemmas.List.Sums.{sum_by_more_le}
+use Rattle.std.proofs.lemmas.List.Recursion.{is_sum_by}
 use Rattle.lists.specs.Holds.{All}
 use Rattle.groups.specs.Groups.{Written, Stands, groups_of}
 use Rattle.groups.proofs.Grouping.{written_groups, groups_written}
@@ -94,11 +97,13 @@ bytes_next l i h =
 pub length_next : (l : List ℕ) (i : ℕ) → i < length l → length (bytes_of (take (i + 1) l)) ≡ length (bytes_of (take i l)) + length (groups_of (get_or l i 0))
 length_next l i h = ap length (bytes_next l i h) ∙ length-append (bytes_of (take i l)) (groups_of (get_or l i 0))
 
-pub length_within : (l : List ℕ) (k m : ℕ) → k ≤ m → length (bytes_of (take k l)) ≤ length (bytes_of (take m l))
-length_within l zero m h = omega arith
-length_within l (suc k) zero h = absurd (omega arith)
-length_within [] (suc k) (suc m) h = omega arith
-length_within (x ∷ l) (suc k) (suc m) h = omega (arith, length_within l k m (omega arith), length-append (groups_of x) (bytes_of (take k l)), length-append (groups_of x) (bytes_of (take m l)))
+-- the length of all is the sum of their lengths
+pub bytes_sum : (ns : List ℕ) → sum_by (λ n. length (groups_of n)) ns ≡ length (bytes_of ns)
+bytes_sum ns = sym (is_sum_by (λ ms. length (bytes_of ms)) (λ n. length (groups_of n)) refl (λ m ms. length-append (groups_of m) (bytes_of ms)) ns)
+
+-- one more of them has its place among all
+pub length_within : (l : List ℕ) (i : ℕ) → i < length l → length (bytes_of (take i l)) + length (groups_of (get_or l i 0)) ≤ length (bytes_of l)
+length_within l i h = omega (arith, bytes_sum l, bytes_sum (take i l), sum_by_more_le (λ n. length (groups_of n)) l i 0 h)
 
 -- stored from the front on, and one more behind
 pub sets_next : (b l : List ℕ) (i : ℕ) → i < length l → sets (sets b 0 (bytes_of (take i l))) (length (bytes_of (take i l))) (groups_of (get_or l i 0)) ≡ sets b 0 (bytes_of (take (i + 1) l))

@@ -4,19 +4,19 @@ use Prim.Native.Nat.{ℕ, ◌+◌}
 use mathlib.Core.Path.{◌≡◌, refl, sym, ap, ap₂, ◌∙◌}
 use mathlib.Core.Bool.{Bool, false, true≢false}
 use mathlib.Core.List.{List, ◌++◌}
-use mathlib.Core.Option.{Option}
+use mathlib.Core.Option.{Option, none}
 use lib.ListN.{length, take, drop}
 use lib.Seq.{take_at}
-use Rattle.groups.specs.declared.Wrote.TheVariants.{Length}
+use Rattle.std.specs.Prelude.{Result, Ok, Err}
 use Rattle.groups.specs.Buffers.{Writes}
 use Rattle.groups.proofs.Writing.{writes_length}
 use Rattle.transactions.specs.declared.Header.{Header}
 use Rattle.transactions.specs.declared.Call.{Call}
-use Rattle.transactions.specs.declared.Reading.{Reading}
-use Rattle.transactions.specs.declared.HeaderReading.{HeaderReading}
-use Rattle.transactions.specs.Sequences.{bytes_of, Reached, Waits}
+use Rattle.transactions.specs.declared.Halt.{Halt}
+use Rattle.transactions.specs.declared.Halt.TheVariants.{Stop, More}
+use Rattle.transactions.specs.Sequences.{bytes_of, Reached}
 use Rattle.transactions.specs.Calls.{call_limit, header_limit, numbers_of, header_of, Typed, TypedHeader, WrittenCall, WrittenHeader}
-use Rattle.transactions.specs.Readings.{StopsAt, WholeCall, WholeHeader, CallRead, HeaderRead}
+use Rattle.transactions.specs.Readings.{Halts, WholeCall, WholeHeader, CallRead, HeaderRead}
 use Rattle.transactions.proofs.Sequencing.{sequence_bytes, bytes_sequence, reached_of, reached_bytes, reached_length}
 use Rattle.transactions.proofs.Comparing.{reached_same, whole_ends, whole_stops, stops_same, stopped_waits}
 use Rattle.transactions.proofs.Calling.{numbers_same, header_same, call_complete, call_ready, header_ready}
@@ -29,46 +29,39 @@ pub header_reached : {rest : List ℕ} {header : Header} {len : ℕ} → WholeHe
 header_reached w = record { inside = w.inside; before = w.written.sequence; within = w.written.within }
 
 -- the answers that are no whole, for a header and a call alike
-module _ {limit : List ℕ → Option ℕ} {rest : List ℕ} {more : Bool} where
-  stop_stop : {at a b : ℕ} → StopsAt limit rest at more a → StopsAt limit rest at more b → a ≡ b
-  stop_stop {at} s t = s.is ∙ ap (λ k. at + k) (stops_same s.stopped.stops t.stopped.stops) ∙ sym t.is
+halts_same : (limit : List ℕ → Option ℕ) (rest : List ℕ) (at : ℕ) (more : Bool) (a b : Halt) → Halts limit rest at more a → Halts limit rest at more b → a ≡ b
+halts_same limit rest at more (Stop p) (Stop q) v w = ap Stop (v.is ∙ ap (λ k. at + k) (stops_same v.stopped.stops w.stopped.stops) ∙ sym w.is)
+halts_same limit rest at more (Stop p) More v w = absurd (stopped_waits v.stopped w)
+halts_same limit rest at more More (Stop q) v w = absurd (stopped_waits w.stopped v)
+halts_same limit rest at more More More v w = refl
 
-  stop_more : {at a : ℕ} → StopsAt limit rest at more a → Waits limit rest more → ⊥
-  stop_more s w = stopped_waits s.stopped w
+whole_halts : {limit : List ℕ → Option ℕ} {rest ns : List ℕ} {o : ℕ} (at : ℕ) (more : Bool) (h : Halt) → Reached limit rest ns o → limit ns ≡ none → Halts limit rest at more h → ⊥
+whole_halts at more (Stop p) r e h = whole_stops r e h.stopped.stops
+whole_halts at more More r e h = whole_stops r e h.stops
 
 -- LAW: two answers that reading a call may give are equal
-pub call_read_same : (rest : List ℕ) (at : ℕ) (more : Bool) (a b : Reading) → CallRead rest at more a → CallRead rest at more b → a ≡ b
-call_read_same rest at more (Reading.Call a l) (Reading.Call b m) v w =
+pub call_read_same : (rest : List ℕ) (at : ℕ) (more : Bool) (a b : Result (Call × ℕ) Halt) → CallRead rest at more a → CallRead rest at more b → a ≡ b
+call_read_same rest at more (Ok (a, l)) (Ok (b, m)) v w =
     let e = reached_same (call_reached v) (call_reached w) (whole_ends (call_complete a)) (whole_ends (call_complete b)) in
-    ap₂ Reading.Call (numbers_same a b e.0) e.1
-call_read_same rest at more (Reading.Call a l) (Reading.Stop p) v w = absurd (whole_stops (call_reached v) (call_complete a) w.stopped.stops)
-call_read_same rest at more (Reading.Call a l) Reading.More v w = absurd (whole_stops (call_reached v) (call_complete a) w.stops)
-call_read_same rest at more (Reading.Stop p) (Reading.Call b m) v w = absurd (whole_stops (call_reached w) (call_complete b) v.stopped.stops)
-call_read_same rest at more (Reading.Stop p) (Reading.Stop q) v w = ap Reading.Stop (stop_stop v w)
-call_read_same rest at more (Reading.Stop p) Reading.More v w = absurd (stop_more v w)
-call_read_same rest at more Reading.More (Reading.Call b m) v w = absurd (whole_stops (call_reached w) (call_complete b) v.stops)
-call_read_same rest at more Reading.More (Reading.Stop q) v w = absurd (stop_more w v)
-call_read_same rest at more Reading.More Reading.More v w = refl
+    ap₂ {C = Result (Call × ℕ) Halt} (λ c k. Ok (c, k)) (numbers_same a b e.0) e.1
+call_read_same rest at more (Ok (a, l)) (Err h) v w = absurd (whole_halts at more h (call_reached v) (call_complete a) w)
+call_read_same rest at more (Err g) (Ok (b, m)) v w = absurd (whole_halts at more g (call_reached w) (call_complete b) v)
+call_read_same rest at more (Err g) (Err h) v w = ap Err (halts_same call_limit rest at more g h v w)
 
 -- LAW: two answers that reading a header may give are equal
-pub header_read_same : (rest : List ℕ) (more : Bool) (a b : HeaderReading) → HeaderRead rest more a → HeaderRead rest more b → a ≡ b
-header_read_same rest more (HeaderReading.Header a l) (HeaderReading.Header b m) v w =
+pub header_read_same : (rest : List ℕ) (more : Bool) (a b : Result (Header × ℕ) Halt) → HeaderRead rest more a → HeaderRead rest more b → a ≡ b
+header_read_same rest more (Ok (a, l)) (Ok (b, m)) v w =
     let e = reached_same (header_reached v) (header_reached w) (whole_ends refl) (whole_ends refl) in
-    ap₂ HeaderReading.Header (header_same a b e.0) e.1
-header_read_same rest more (HeaderReading.Header a l) (HeaderReading.Stop p) v w = absurd (whole_stops (header_reached v) refl w.stopped.stops)
-header_read_same rest more (HeaderReading.Header a l) HeaderReading.More v w = absurd (whole_stops (header_reached v) refl w.stops)
-header_read_same rest more (HeaderReading.Stop p) (HeaderReading.Header b m) v w = absurd (whole_stops (header_reached w) refl v.stopped.stops)
-header_read_same rest more (HeaderReading.Stop p) (HeaderReading.Stop q) v w = ap HeaderReading.Stop (stop_stop v w)
-header_read_same rest more (HeaderReading.Stop p) HeaderReading.More v w = absurd (stop_more v w)
-header_read_same rest more HeaderReading.More (HeaderReading.Header b m) v w = absurd (whole_stops (header_reached w) refl v.stops)
-header_read_same rest more HeaderReading.More (HeaderReading.Stop q) v w = absurd (stop_more w v)
-header_read_same rest more HeaderReading.More HeaderReading.More v w = refl
+    ap₂ {C = Result (Header × ℕ) Halt} (λ c k. Ok (c, k)) (header_same a b e.0) e.1
+header_read_same rest more (Ok (a, l)) (Err h) v w = absurd (whole_halts 0 more h (header_reached v) refl w)
+header_read_same rest more (Err g) (Ok (b, m)) v w = absurd (whole_halts 0 more g (header_reached w) refl v)
+header_read_same rest more (Err g) (Err h) v w = ap Err (halts_same header_limit rest 0 more g h v w)
 
 -- LAW: More is never answered where no more bytes follow
-pub call_no_more : (rest : List ℕ) (at : ℕ) → CallRead rest at false Reading.More → ⊥
+pub call_no_more : (rest : List ℕ) (at : ℕ) → CallRead rest at false (Err More) → ⊥
 call_no_more rest at w = true≢false (sym w.follows)
 
-pub header_no_more : (rest : List ℕ) → HeaderRead rest false HeaderReading.More → ⊥
+pub header_no_more : (rest : List ℕ) → HeaderRead rest false (Err More) → ⊥
 header_no_more rest w = true≢false (sym w.follows)
 
 -- LAW: the bytes that are written are the written form of the call, and the only one
@@ -92,7 +85,7 @@ header_whole : (header : Header) (behind : List ℕ) → TypedHeader header → 
 header_whole header behind t = let r = header_ready header t in let w = reached_of header_limit (header_of header) behind r.fits r.within in record { inside = w.inside; written = record { sequence = w.before; within = w.within } }
 
 -- the bytes that were read are written again
-same_bytes : {limit : List ℕ → Option ℕ} {rest ns : List ℕ} {len : ℕ} → Reached limit rest ns len → {before after : List ℕ} {m : ℕ} → Writes (bytes_of ns) before after (Length m) → (m ≡ len) × (take m after ≡ take len rest)
+same_bytes : {limit : List ℕ → Option ℕ} {rest ns : List ℕ} {len : ℕ} → Reached limit rest ns len → {before after : List ℕ} {m : ℕ} → Writes (bytes_of ns) before after (Ok m) → (m ≡ len) × (take m after ≡ take len rest)
 same_bytes {limit} {rest} {ns} {len} r {before} {after} {m} w =
     let v = writes_length w in (
       v.answer ∙ sym (reached_length r),
@@ -100,22 +93,22 @@ same_bytes {limit} {rest} {ns} {len} r {before} {after} {m} w =
     )
 
 -- LAW: what write_call wrote, with any bytes behind it, read_call reads: the same call and length
-pub read_write_call : (call : Call) → Typed call → {before after : List ℕ} {len : ℕ} → Writes (bytes_of (numbers_of call)) before after (Length len) → (at : ℕ) (more : Bool) (r : Reading) → CallRead after at more r → r ≡ Reading.Call call len
+pub read_write_call : (call : Call) → Typed call → {before after : List ℕ} {len : ℕ} → Writes (bytes_of (numbers_of call)) before after (Ok len) → (at : ℕ) (more : Bool) (r : Result (Call × ℕ) Halt) → CallRead after at more r → r ≡ Ok (call, len)
 read_write_call call t {before} {after} {len} w at more r c =
     let v = writes_length w in
     let q : WholeCall after call len = rw (v.answer, v.buffer) (call_whole call (drop (length (bytes_of (numbers_of call))) before) t) in
-    call_read_same after at more r (Reading.Call call len) c q
+    call_read_same after at more r (Ok (call, len)) c q
 
 -- LAW: what read_call read, write_call writes: the same bytes
-pub write_read_call : {rest : List ℕ} (at : ℕ) (more : Bool) {call : Call} {len : ℕ} → CallRead rest at more (Reading.Call call len) → {before after : List ℕ} {m : ℕ} → Writes (bytes_of (numbers_of call)) before after (Length m) → (m ≡ len) × (take m after ≡ take len rest)
+pub write_read_call : {rest : List ℕ} (at : ℕ) (more : Bool) {call : Call} {len : ℕ} → CallRead rest at more (Ok (call, len)) → {before after : List ℕ} {m : ℕ} → Writes (bytes_of (numbers_of call)) before after (Ok m) → (m ≡ len) × (take m after ≡ take len rest)
 write_read_call at more c w = same_bytes (call_reached c) w
 
 -- LAW: the same of a header
-pub read_write_header : (header : Header) → TypedHeader header → {before after : List ℕ} {len : ℕ} → Writes (bytes_of (header_of header)) before after (Length len) → (more : Bool) (r : HeaderReading) → HeaderRead after more r → r ≡ HeaderReading.Header header len
+pub read_write_header : (header : Header) → TypedHeader header → {before after : List ℕ} {len : ℕ} → Writes (bytes_of (header_of header)) before after (Ok len) → (more : Bool) (r : Result (Header × ℕ) Halt) → HeaderRead after more r → r ≡ Ok (header, len)
 read_write_header header t {before} {after} {len} w more r c =
     let v = writes_length w in
     let q : WholeHeader after header len = rw (v.answer, v.buffer) (header_whole header (drop (length (bytes_of (header_of header))) before) t) in
-    header_read_same after more r (HeaderReading.Header header len) c q
+    header_read_same after more r (Ok (header, len)) c q
 
-pub write_read_header : {rest : List ℕ} (more : Bool) {header : Header} {len : ℕ} → HeaderRead rest more (HeaderReading.Header header len) → {before after : List ℕ} {m : ℕ} → Writes (bytes_of (header_of header)) before after (Length m) → (m ≡ len) × (take m after ≡ take len rest)
+pub write_read_header : {rest : List ℕ} (more : Bool) {header : Header} {len : ℕ} → HeaderRead rest more (Ok (header, len)) → {before after : List ℕ} {m : ℕ} → Writes (bytes_of (header_of header)) before after (Ok m) → (m ≡ len) × (take m after ≡ take len rest)
 write_read_header more c w = same_bytes (header_reached c) w
