@@ -34,7 +34,7 @@ use Rattle.schedule.specs.SetUps.{set_up_result}
 use Rattle.schedule.specs.Turns.{input_size, tables_of, Starts, Ready, HeaderTurn, last_of, next_of, taken, PartBy}
 use Rattle.schedule.specs.Files.{PrintsFile, Runs}
 use Rattle.schedule.specs.Files as W
-use Rattle.schedule.proofs.Turning.{starts_ready, bytes_held, ended_last, after_on, after_over, after_read, next_none, read_none}
+use Rattle.schedule.proofs.Turning.{starts_ready, bytes_held, after_on, after_over, after_read, next_none, read_none}
 
 -- ---- a part
 
@@ -42,9 +42,12 @@ use Rattle.schedule.proofs.Turning.{starts_ready, bytes_held, ended_last, after_
 unsound_refused : (w : Window) (end : End) → next_of w end ≡ Next.Unsound → (n : Refusal) × (end ≡ End.Refused n)
 unsound_refused w end e = grind arith
 
--- the file ends only where no more may follow
+-- the file ends only where no more may follow, with a line of its own
 ended_over : (w : Window) → next_of w End.Ended ≡ Next.Over → w.more ≡ false
 ended_over w e = grind arith
+
+ended_last : (w : Window) → w.more ≡ false → last_of w End.Ended ≡ end_line
+ended_last w m = rw m
 
 module _ {m m' : Memory} {s s' : Session} {input : List ℕ} {b b' : Buffers} {r : Turned} (S : Sound (tables_of m s)) (p : PartBy m s input b m' s' b' r) where
   -- on sound tables the calls are made

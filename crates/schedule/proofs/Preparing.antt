@@ -16,6 +16,7 @@ use Rattle.sizes.specs.declared.Size.{Size}
 use Rattle.sizes.specs.Sizes.{sizes, seek, size_of}
 use Rattle.model.specs.declared.Refusal.{Refusal}
 use Rattle.model.specs.declared.Refusal.TheVariants.{NotSound}
+use Rattle.model.specs.Answers.{refusal_number}
 use Rattle.tables.specs.declared.Ticket.{Ticket}
 use Rattle.tables.specs.declared.Coordinator.{Coordinator}
 use Rattle.tables.specs.Tables.{Tables}
@@ -43,10 +44,6 @@ pub memory_fits : (s : Option Size) {l : Lengths} {m : Memory} → l ≡ lengths
 memory_fits s e m =
     let f = lengths_fit s in
     rw e (record { of_keys = omega (arith, f.0, m.keyed); of_values = omega (arith, f.0, m.valued); of_rows = omega (arith, f.1, m.rowed); of_buckets = omega (arith, f.2, m.bucketed) })
-
--- a part that came back is at the front
-pub part_front : {A : Type 0} (d e : List A) (n : ℕ) → length e ≡ length (take n d) → n ≤ length d → take n (e ++ drop n d) ≡ e
-part_front d e n h f = take_at e (drop n d) n (h ∙ length-take-le n d f)
 
 -- ---- the result
 
@@ -86,18 +83,17 @@ fits_is size t small k v r b = go (leb size.capacity 256) refl
     go false e = let l = leb-false size.capacity 256 e in rw (ne_eqb (length t.keys) size.capacity (λ x. omega (arith, k)))
 
 -- the number of an answer of set-up is 0 only where it is done
-done_of : (s : Option Size) (t : Tables) → answer_number (answer_in s t) ≡ 0 → answer_in s t ≡ (Ok tt)
-done_of None t e = absurd (omega arith)
-done_of (Some size) t e = go (fits size t) refl
-  where
-    go : (b : Bool) → fits size t ≡ b → cond (fits size t) (Ok tt) (Err NotSound) ≡ (Ok tt)
-    go true f = rw f
-    go false f = let z : ◌≡◌ {A = ℕ} 1 0 = rw f at e in absurd (omega arith)
+number_some : (r : Refusal) → refusal_number r ≡ 0 → ⊥
+number_some r e = grind arith
+
+number_done : (a : Result ⊤ Refusal) → answer_number a ≡ 0 → a ≡ Ok tt
+number_done (Ok tt) e = refl
+number_done (Err r) e = absurd (number_some r e)
 
 module _ {m : Memory} (capacity : ℕ) (start : Version) {l : Lengths} {tickets tickets' : List Ticket} {co co' : Coordinator} {a : Result ⊤ Refusal} {rows' buckets' : List ℕ}
     (s : Session) (w : Whole m) (e : l ≡ lengths_of (size_of capacity))
     (y : SetUpBy (cut m l tickets co) (lent (take l.nodes m.keys) (take l.nodes m.values) rows' buckets' tickets' co') capacity start a)
-    (r : length rows' ≡ length (take l.rows m.rows)) (b : length buckets' ≡ length (take l.buckets m.buckets)) where
+    (r : length rows' ≡ l.rows) (b : length buckets' ≡ l.buckets) where
   abbrev t : Tables
   t = cut m l tickets co
 
@@ -142,8 +138,8 @@ module _ {m : Memory} (capacity : ℕ) (start : Version) {l : Lengths} {tickets 
         lengths = e;
         fresh =
             λ z.
-            (let d : a ≡ Ok tt = answer_is ∙ done_of (size_of capacity) t (sym (ap answer_number answer_is) ∙ z) in
-            rw (part_front m.rows rows' l.rows r f.of_rows, part_front m.buckets buckets' l.buckets b f.of_buckets)
+            (let d = number_done a z in
+            rw (take_at rows' (drop l.rows m.rows) l.rows r, take_at buckets' (drop l.buckets m.buckets) l.buckets b)
             (record { sound = y.sound d; shows = y.model d }));
         same =
             λ z.

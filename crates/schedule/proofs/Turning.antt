@@ -8,6 +8,7 @@ use Prim.Native.Nat.{ℕ, ◌+◌, ◌-◌, ◌^◌, ◌≤◌, ◌<◌, min}
 use native.Mathlib.Omega.{arith}
 use lib.Dec.{eqb}
 use lib.ListN.{length, take, drop}
+use lib.Seq.{take_at}
 use lib.IntN.{ℤ}
 use Rattle.std.proofs.lemmas.Bool.Decides.{nat_tests}
 use Rattle.sizes.specs.Sizes.{size_of}
@@ -17,13 +18,13 @@ use Rattle.transactions.specs.Readings.{HeaderRead, WholeHeader}
 use Rattle.transactions.proofs.Lengths.{header_length}
 use Rattle.listing.specs.Puts.{Room, Put}
 use Rattle.listing.proofs.Putting.{put_none_lem, put_wider, put_then, put_shown_lem}
+use Rattle.tables.specs.Tables.{Tables}
 use Rattle.tables.specs.declared.Ticket.{Ticket}
 use Rattle.tables.specs.declared.Coordinator.{Coordinator}
 use Rattle.soundness.specs.Tested.{lent}
 use Rattle.batch.specs.declared.Batch.{Batch}
 use Rattle.batch.specs.declared.End.{End}
-use Rattle.batch.specs.declared.Then.TheVariants.{Over}
-use Rattle.batch.specs.Lists.{Input, Output, output_of, Follows, Ran}
+use Rattle.batch.specs.Lists.{Input, Output, input_of, output_of, Follows, Ran}
 use Rattle.lines.specs.Lines.{most_for}
 use Rattle.lines.specs.Parts.{Printed}
 use Rattle.lines.specs.Files.{end_line, stop_line}
@@ -37,9 +38,9 @@ use Rattle.schedule.specs.declared.Memory.{Memory}
 use Rattle.schedule.specs.declared.Buffers.{Buffers}
 use Rattle.schedule.specs.declared.Next.{Next}
 use Rattle.schedule.specs.declared.Turned.{Turned}
-use Rattle.schedule.specs.SetUps.{set_up_result, Whole, PreparedBy}
+use Rattle.schedule.specs.SetUps.{set_up_result, PreparedBy}
 use Rattle.schedule.specs.Turns.{input_size, last_most, Starts, Ready, Rooms, Laid, set_up_line, next_after, Begins, Only, HeaderTurn, HeaderBy, last_of, Within, next_of, taken, PartBy, Goes, TurnBy, holding, HeldThen, ReadOnBy}
-use Rattle.schedule.proofs.Preparing.{lengths_fit, Fits, part_front}
+use Rattle.schedule.proofs.Preparing.{lengths_fit}
 
 -- ---- the text laid down
 
@@ -47,36 +48,22 @@ use Rattle.schedule.proofs.Preparing.{lengths_fit, Fits, part_front}
 pub put_laid : {out last text : List ℕ} {most len : ℕ} → Room out 0 most → length last ≡ length out → Put out 0 most text last len → Laid text last len
 put_laid r l p = record { inside = omega (arith, p.within); is = put_shown_lem r p }
 
--- LAW: a text of at most so many bytes is the last line, or no text is
-pub put_text : (w : Window) (end : End) {out last text : List ℕ} {at most len : ℕ} → most ≤ last_most → last_of w end ≡ text → Put out at most text last len → Put out at last_most (last_of w end) last len
-put_text w end h e p = rw e (put_wider h p)
-
+-- LAW: where nothing is put, there is no last line
 pub put_nothing : (w : Window) (end : End) (out : List ℕ) (at : ℕ) → last_of w end ≡ [] → Put out at last_most (last_of w end) out at
 put_nothing w end out at e = rw e (put_wider (omega arith) (put_none_lem out at))
 
--- LAW: which it is, by whether more may follow, and by the offset
-pub ended_none : (w : Window) → w.more ≡ true → last_of w End.Ended ≡ []
-ended_none w m = rw m
-
-pub ended_last : (w : Window) → w.more ≡ false → last_of w End.Ended ≡ end_line
-ended_last w m = rw m
-
-pub stop_last : (w : Window) (end : End) (place : ℕ) {k : ℕ} → end ≡ End.Stop place → k ≡ min (place_of w + place) (2 ^ 64 - 1) → Within w end → last_of w end ≡ stop_line k
-stop_last w end place {k} e f h =
-    let z : place_of w + place ≡ k = omega (arith, h place e) in
-    ap (last_of w) e ∙ ap stop_line z
-
 -- LAW: set-up's line is laid down, and what set-up left is carried on
-pub begins : {m m' : Memory} {s t : Session} {h : Header} {len laid : ℕ} {last : List ℕ} {n : ℕ} → PreparedBy m s m' t h.capacity h.start n
-    → Laid (set_up_line n) last laid
-    → Begins m s m' (record t { begun = true; window = behind t.window len; calls = 0 }) last (record { length = laid; next = next_after n }) h len
-begins {len = len} {laid = laid} {last = last} p t =
+pub begins : {m m' : Memory} {s t : Session} {h : Header} {len laid a b : ℕ} {last : List ℕ} {w : Window} {n : Next} → PreparedBy m s m' t h.capacity h.start a → b ≡ a
+    → Laid (set_up_line b) last laid → w ≡ behind t.window len → n ≡ next_after b
+    → Begins m s m' (record t { begun = true; window = w; calls = 0 }) last (record { length = laid; next = n }) h len
+begins {len = len} {laid = laid} {last = last} p f t w n =
+    let e = f ∙ p.result in
     record {
-      line = subst (λ k. Laid (set_up_line k) last laid) p.result t;
-      next = ap next_after p.result;
+      line = subst (λ k. Laid (set_up_line k) last laid) e t;
+      next = n ∙ ap next_after e;
       begun = refl;
       lengths = p.lengths;
-      window = ap (λ w. behind w len) p.window;
+      window = w ∙ ap (λ x. behind x len) p.window;
       calls = refl;
       fresh = λ z. p.fresh (p.result ∙ z);
       same = λ z. p.same (λ y. z (sym p.result ∙ y));
@@ -110,16 +97,6 @@ pub next_read : (w : Window) (end : End) → (end ≡ End.More → w.more ≡ tr
 next_read w end f e = grind arith
 
 -- ---- the turn at the header
-
--- LAW: the parts that are lent are parts of the memory
-pub ready_fits : {s : Session} {m : Memory} → Ready s → Whole m → Fits s.lengths m
-ready_fits y h =
-    record {
-      of_keys = omega (arith, y.nodes, h.keyed);
-      of_values = omega (arith, y.nodes, h.valued);
-      of_rows = omega (arith, y.rows, h.rowed);
-      of_buckets = omega (arith, y.buckets, h.bucketed);
-    }
 
 -- LAW: as many bytes are held as the window says
 pub bytes_held : {s : Session} → Ready s → (input : List ℕ) → length input ≡ input_size → length (held_in s.window input) ≡ count_of s.window
@@ -171,13 +148,13 @@ module _ (m : Memory) {s : Session} (y : Ready s) (input : List ℕ) (l : length
       → HeaderBy m s input m' s' out r × Goes s s' r
   header_begins {h = h} {len = len} w b = (record { reading = Ok (h, len); reads = w; comes = b }, begins_goes y input l w b)
 
-  pub header_stops : {out : List ℕ} {len : ℕ} (place : ℕ) → HeaderRead (held_in s.window input) s.window.more (Err (Halt.Stop place))
-      → Laid (stop_line (min (place_of s.window + place) (2 ^ 64 - 1))) out len
+  pub header_stops : {out : List ℕ} {len k : ℕ} (place : ℕ) → HeaderRead (held_in s.window input) s.window.more (Err (Halt.Stop place))
+      → k ≡ min (place_of s.window + place) (2 ^ 64 - 1) → Laid (stop_line k) out len
       → HeaderBy m s input m s out (record { length = len; next = Next.Over }) × Goes s s (record { length = len; next = Next.Over })
-  header_stops {out} {len} place w t =
+  header_stops {out} {len} {k} place w f t =
       let a = w.stopped.stops.reached.inside in
       let d = y.held in
-      let z : min (place_of s.window + place) (2 ^ 64 - 1) ≡ place_of s.window + place = omega (arith, w.is, bytes_held y input l, d.order, d.counted, d.known) in
+      let z : k ≡ place_of s.window + place = omega (arith, w.is, bytes_held y input l, d.order, d.counted, d.known) in
       let o : Only (stop_line (place_of s.window + place)) Next.Over m s m s out (record { length = len; next = Next.Over }) =
       record { line = subst (λ n. Laid (stop_line n) out len) z t; next = refl; session = refl; memory = refl } in
       (record { reading = Err (Halt.Stop place); reads = w; comes = o }, only_goes y (λ e. cc) (λ e. cc) o)
@@ -196,8 +173,8 @@ module _ {i : Input} {o : Output} (r : Ran i o) where
   ran_more e = go r.tested refl
     where
       go : (b : Bool) → r.tested ≡ b → i.more ≡ true
-      go true t = let l = r.lists t in (subst (λ (x : End). Follows i l.made (Over x)) e l.ends).1.follows
-      go false t = let x = sym (ap (λ (x : Output). x.end) (r.refuses t)) ∙ e in let z : ◌≡◌ {A = ℕ} 0 1 = cc in absurd (omega arith)
+      go true t = let l = r.lists t in (subst (λ (x : End). Follows i l.made (Err x)) e l.ends).1.follows
+      go false t = let x = ap (λ (x : Output). x.end) (r.refuses t) in cc
 
 module _ {i : Input} {before len n : ℕ} {out mid : List ℕ} {o : Output} (p : Printed i before out o mid len)
     (r : Rooms n (length i.answers) (length i.keys) (length i.values) (length out)) where
@@ -208,44 +185,45 @@ module _ {i : Input} {before len n : ℕ} {out mid : List ℕ} {o : Output} (p :
       go true e = omega (arith, (p.lines e).within)
       go false e = omega (arith, (p.silent e).within)
 
-  -- LAW: there is room for the last line
-  pub last_room : length mid ≡ length out → Room mid len last_most
-  last_room l = omega (arith, most, r.lines)
-
   -- LAW: the last line comes behind the lines
   pub last_laid : {last text rest : List ℕ} {next : ℕ} → length last ≡ length out → Put out 0 (most_for (length i.answers) (length i.keys)) text mid len → Put mid len last_most rest last next → Laid (text ++ rest) last next
   last_laid l q t = put_laid (omega (arith, r.lines)) l (put_then (omega (arith, r.lines)) q t)
 
-  module _ {s : Session} (y : Ready s) (k : Kept i o) (c : length i.bytes ≡ count_of s.window) where
-    -- LAW: the offset at which it stops can be counted
-    pub stop_within : Within s.window o.end
-    stop_within place e = let h = y.held in omega (arith, ran_stop p.ran place e, h.order, h.counted, h.known)
+-- what a part leaves room for: the last line, the offset at which it stops, the count of calls, and the next turn with less left
+pub record Leaves (s : Session) (b : Batch) (mid : List ℕ) (len : ℕ) : Type 0 where
+  pub room : Room mid len last_most
+  pub within : Within s.window b.end
+  pub counted : s.calls + b.calls < 2 ^ 64
+  pub goes : {s' : Session} {t : Turned} → s'.lengths ≡ s.lengths → s'.window ≡ behind s.window b.used → s'.calls ≡ s.calls + b.calls → t.next ≡ next_of s.window b.end → Goes s s' t
 
-    -- LAW: each call made used a byte
-    pub calls_fit : s.calls + o.calls < 2 ^ 64
-    calls_fit =
-        let x = ran_within p.ran k in
-        let h = y.held in
-        omega (arith, x.few, x.bytes, y.few, h.order, h.counted, h.known)
-
-    -- LAW: behind the bytes used less is left
-    pub part_goes : {s' : Session} {t : Turned} → i.more ≡ s.window.more → s'.lengths ≡ s.lengths → s'.window ≡ behind s.window o.used → s'.calls ≡ s.calls + o.calls → t.next ≡ next_of s.window o.end → Goes s s' t
-    part_goes f l w a e =
-        let x = ran_within p.ran k in
-        let u : o.used ≤ count_of s.window = omega (arith, x.bytes) in
-        let b = behind_left y.held u in
-        record {
-          ready =
-              record {
-                held = rw w (behind_held y.held u);
-                few = rw (w, a) (omega (arith, behind_place y.held u, x.few, y.few));
-                nodes = rw l y.nodes;
-                rows = rw l y.rows;
-                buckets = rw l y.buckets;
-              };
-          on = λ g. rw w (omega (arith, b, ran_full p.ran r.cells r.for_keys r.for_values (next_on s.window o.end (sym e ∙ g))));
-          read = λ g. rw w (next_read s.window o.end (λ z. sym f ∙ ran_more p.ran z) (sym e ∙ g), omega (arith, b));
-        }
+-- LAW: as far as there is room
+pub part_leaves : {t t' : Tables} {s : Session} (input : List ℕ) {out mid : List ℕ} {answers ks vs answers' ks' vs' : List ℤ} {b : Batch} {len : ℕ} → Printed (input_of t (held_in s.window input) s.window.more answers ks vs) s.calls out (output_of t' answers' ks' vs' b) mid len
+    → Ready s → Rooms (length input) (length answers) (length ks) (length vs) (length out) → length answers' ≡ length answers → length ks' ≡ length ks → length vs' ≡ length vs → length mid ≡ length out → Leaves s b mid len
+part_leaves {s = s} input {b = b} p y r ka kk kv km =
+    let x = ran_within p.ran (record { answers = ka; keys = kk; values = kv }) in
+    let h = y.held in
+    let n = bytes_held y input r.holds in
+    let u : b.used ≤ count_of s.window = omega (arith, x.bytes) in
+    let z = behind_left h u in
+    record {
+      room = omega (arith, most p r, r.lines);
+      within = λ place e. omega (arith, ran_stop p.ran place e, h.order, h.counted, h.known);
+      counted = omega (arith, x.few, y.few, h.order, h.counted, h.known);
+      goes =
+          λ l w a e.
+          record {
+            ready =
+                record {
+                  held = rw w (behind_held h u);
+                  few = rw (w, a) (omega (arith, behind_place h u, x.few, y.few));
+                  nodes = rw l y.nodes;
+                  rows = rw l y.rows;
+                  buckets = rw l y.buckets;
+                };
+            on = λ g. rw w (omega (arith, z, ran_full p.ran r.cells r.for_keys r.for_values (next_on s.window b.end (sym e ∙ g))));
+            read = λ g. rw w (next_read s.window b.end (λ q. ran_more p.ran q) (sym e ∙ g), omega (arith, z));
+          };
+    }
 
 -- LAW: where the tables are not sound, no line follows
 pub silent_last : {i : Input} {o : Output} (r : Ran i o) (w : Window) → r.tested ≡ false → last_of w o.end ≡ []
@@ -253,18 +231,16 @@ silent_last r w e = ap (last_of w) (ap (λ (x : Output). x.end) (r.refuses e))
 
 -- LAW: a part is what it is said to be
 module _ {m : Memory} {s : Session} {input : List ℕ} {b : Buffers} {answers' ks' vs' : List ℤ} {mid last : List ℕ} {n plen len : ℕ} {keys' : List ℕ} {values' : List ℤ} {rows' buckets' : List ℕ}
-    {tickets' : List Ticket} {co' : Coordinator} {x : Batch} (y : Ready s) (h : Whole m) (r : Rooms n (length b.answers) (length b.out_keys) (length b.out_values) (length b.out))
+    {tickets' : List Ticket} {co' : Coordinator} {x : Batch} (r : Rooms n (length b.answers) (length b.out_keys) (length b.out_values) (length b.out))
     (p : Printed (taken m s input b) s.calls b.out (output_of (lent keys' values' rows' buckets' tickets' co') answers' ks' vs' x) mid plen)
-    (q : Put mid plen last_most (last_of s.window x.end) last len) (l : length last ≡ length b.out) (kk : length keys' ≡ length (take s.lengths.nodes m.keys))
-    (kv : length values' ≡ length (take s.lengths.nodes m.values)) (kr : length rows' ≡ length (take s.lengths.rows m.rows))
-    (kb : length buckets' ≡ length (take s.lengths.buckets m.buckets)) where
+    (q : Put mid plen last_most (last_of s.window x.end) last len) (l : length last ≡ length b.out) (kk : length keys' ≡ s.lengths.nodes) (kv : length values' ≡ s.lengths.nodes)
+    (kr : length rows' ≡ s.lengths.rows) (kb : length buckets' ≡ s.lengths.buckets) where
   pub part_by : PartBy m s input b
       (record { keys = keys' ++ drop s.lengths.nodes m.keys; values = values' ++ drop s.lengths.nodes m.values; rows = rows' ++ drop s.lengths.rows m.rows; buckets = buckets' ++ drop s.lengths.buckets m.buckets })
       (record { begun = true; lengths = s.lengths; tickets = tickets'; coordinator = co'; window = behind s.window x.used; calls = s.calls + x.calls })
       (record { answers = answers'; out_keys = ks'; out_values = vs'; out = last })
       (record { length = len; next = next_of s.window x.end })
   part_by =
-      let f = ready_fits y h in
       record {
         output = output_of (lent keys' values' rows' buckets' tickets' co') answers' ks' vs' x;
         ran = p.ran;
@@ -274,7 +250,7 @@ module _ {m : Memory} {s : Session} {input : List ℕ} {b : Buffers} {answers' k
         begun = refl;
         tables =
             rw
-            (part_front m.keys keys' s.lengths.nodes kk f.of_keys, part_front m.values values' s.lengths.nodes kv f.of_values, part_front m.rows rows' s.lengths.rows kr f.of_rows, part_front m.buckets buckets' s.lengths.buckets kb f.of_buckets);
+            (take_at keys' (drop s.lengths.nodes m.keys) s.lengths.nodes kk, take_at values' (drop s.lengths.nodes m.values) s.lengths.nodes kv, take_at rows' (drop s.lengths.rows m.rows) s.lengths.rows kr, take_at buckets' (drop s.lengths.buckets m.buckets) s.lengths.buckets kb);
         window = refl;
         calls = refl;
       }
@@ -290,13 +266,6 @@ header_inside {m} {m'} {s} {s'} {input} {out} {r} h = go h.reading h.comes
     go (Err Halt.More) c = c.line.inside
 
 module _ {m m' : Memory} {s s' : Session} {input : List ℕ} {b b' : Buffers} {r : Turned} where
-  -- LAW: either turn is one
-  pub turn_part : s.begun ≡ true → PartBy m s input b m' s' b' r × Goes s s' r → TurnBy m s input b m' s' b' r
-  turn_part e p = record { header = λ f. absurd (true≢false (sym e ∙ f)); part = λ f. p.0; goes = p.1 }
-
-  pub turn_header : s.begun ≡ false → HeaderBy m s input m' s' b'.out r × Goes s s' r → TurnBy m s input b m' s' b' r
-  turn_header e p = record { header = λ f. p.0; part = λ f. absurd (true≢false (sym f ∙ e)); goes = p.1 }
-
   part_inside : PartBy m s input b m' s' b' r → r.length ≤ length b'.out
   part_inside p = go p.ran.tested refl
     where
@@ -311,23 +280,3 @@ module _ {m m' : Memory} {s s' : Session} {input : List ℕ} {b b' : Buffers} {r
       go : (x : Bool) → s.begun ≡ x → r.length ≤ length b'.out
       go true e = part_inside (t.part e)
       go false e = header_inside (t.header e)
-
--- LAW: the next turn may be made, and has less left
-module _ {s s' : Session} {r : Turned} (g : Goes s s' r) (b b' : List ℕ) (l : length b ≡ input_size) where
-  pub goes_ready : (w : Window) → HeldThen s'.window b r.next w b' → Ready (holding s' w)
-  goes_ready w h = go r.next h
-    where
-      go : (n : Next) → HeldThen s'.window b n w b' → Ready (holding s' w)
-      go Next.On k = let y = g.ready in record { held = rw k.0 y.held; few = rw k.0 y.few; nodes = y.nodes; rows = y.rows; buckets = y.buckets }
-      go Next.Read k = let y = g.ready in record { held = rw (sym l) k.held; few = omega (arith, y.few, k.place); nodes = y.nodes; rows = y.rows; buckets = y.buckets }
-      go Next.Over k = absurd k
-      go Next.Unsound k = absurd k
-
-  pub goes_less : (w : Window) → HeldThen s'.window b r.next w b' → left_of w < left_of s.window
-  goes_less w h = go r.next refl h
-    where
-      go : (n : Next) → r.next ≡ n → HeldThen s'.window b n w b' → left_of w < left_of s.window
-      go Next.On q k = rw k.0 (g.on q)
-      go Next.Read q k = let z = g.read q in omega (arith, fetch_left (rw l g.ready.held) k z.0, z.1)
-      go Next.Over q k = absurd k
-      go Next.Unsound q k = absurd k

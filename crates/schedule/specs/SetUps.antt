@@ -49,9 +49,9 @@ cut m l tickets coordinator =
     lent (take l.nodes m.keys) (take l.nodes m.values) (take l.rows m.rows) (take l.buckets m.buckets) tickets coordinator
 
 -- ---- set-up on it: the result; where it is 0, fresh tables of this capacity and start version; else nothing changed
-pub record PreparedBy (m : Memory) (s : Session) (m' : Memory) (s' : Session) (capacity : ℕ) (start : Version) (result : ℕ) : Type 0 where
-  pub result : result ≡ set_up_result capacity
+pub record PreparedBy (m : Memory) (s : Session) (m' : Memory) (s' : Session) (capacity : ℕ) (start : Version) (res : ℕ) : Type 0 where
+  pub result : res ≡ set_up_result capacity
   pub lengths : s'.lengths ≡ lengths_of (size_of capacity)
-  pub fresh : result ≡ 0 → Fresh capacity start.0 (cut m' s'.lengths s'.tickets s'.coordinator)
-  pub same : (result ≡ 0 → ⊥) → m' ≡ m
+  pub fresh : res ≡ 0 → Fresh capacity start.0 (cut m' s'.lengths s'.tickets s'.coordinator)
+  pub same : (res ≡ 0 → ⊥) → m' ≡ m
   pub window : s'.window ≡ s.window

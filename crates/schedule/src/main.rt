@@ -230,9 +230,15 @@ fn put_last(out: &mut [u8], at: usize, window: Window, end: End) -> usize
     ensures { Put out.old at last_most (last_of window end) out.new result }
 {
     match end {
-        End::Ended if !window.more => listing::put_word_line(out, at, b"end"),
+        End::Ended => {
+            if window.more {
+                at
+            } else {
+                listing::put_word_line(out, at, b"end")
+            }
+        }
         End::Stop(place) => listing::put_number_line(out, at, b"stop", window.offset_of(place)),
-        End::Ended | End::More | End::Full | End::Refused(_) => at,
+        End::More | End::Full | End::Refused(_) => at,
     }
 }
 
