@@ -1,40 +1,42 @@
 -- The cases of a close, as the code comes to them.
 -- Assumes nothing.
-use Rattle.std.specs.Prelude.{Ok, Err}
+use Rattle.std.specs.Prelude.{Ok, Err, Some, None}
 use Rattle.model.specs.declared.Refusal.TheVariants.{NoSuchRange}
 use mathlib.Core.Path.{◌≡◌, refl}
 use mathlib.Core.Logic.{◌≢◌}
 use mathlib.Core.Bool.{true}
 use mathlib.Core.List.{List}
-use Prim.Native.Nat.{ℕ, zero, suc, ◌+◌, ◌-◌, ◌≤◌, ◌<◌}
+use Prim.Native.Nat.{ℕ, zero, suc, ◌+◌, ◌-◌, ◌≤◌}
 use native.Mathlib.Omega.{arith}
-use lib.ListN.{set}
-use borrow.Author.Tests.{lt-ltb, le-ltb}
+use lib.ListN.{length, set, take}
 use Rattle.tables.specs.declared.Ticket.{Ticket}
 use Rattle.tables.specs.declared.Coordinator.{Coordinator}
 use Rattle.tables.specs.Tables.{ticket_at, gained}
-use Rattle.ranges.specs.Tickets.{index_of, slide}
+use Rattle.ranges.specs.Tickets.{place_of, slide}
 use Rattle.ranges.specs.Close.{fewer, close_at, closing}
+use Rattle.ranges.proofs.Tickets.{not_found, is_found}
 
-module _ (ts : List Ticket) (c : Coordinator) (v j : ℕ) (e : j ≡ index_of v c.ranges ts) where
+module _ (ts : List Ticket) (c : Coordinator) (v : ℕ) (l : c.ranges ≤ length ts) where
   abbrev k : ℕ
   k = c.ranges
 
-  pub close_none : k ≤ j → record { answer = Err NoSuchRange; tickets = ts; coordinator = c } ≡ closing ts c v
+  pub close_none : place_of v (take k ts) ≡ None → closing ts c v ≡ record { answer = Err NoSuchRange; tickets = ts; coordinator = c }
   unfolding closing
-  close_none h = rw (← e, le-ltb j k h)
+  close_none e = rw (not_found v k ts l e)
 
-  pub close_oldest : j < k → j ≡ 0
-      → record { answer = Ok (ticket_at ts j).held; tickets = slide j k ts; coordinator = fewer c (c.due + (ticket_at ts j).held) } ≡ closing ts c v
-  unfolding closing
-  close_oldest h z = rw (← e, lt-ltb j k h, z)
+  module _ (j : ℕ) (e : place_of v (take k ts) ≡ Some j) where
+    found : closing ts c v ≡ close_at true j ts c
+    unfolding closing
+    found = let w = is_found v k ts j l e in rw (w.1, w.0)
 
-  pub close_later : j < k → j ≢ 0
-      → record { answer = Ok 0; tickets = slide j k (set ts (j - 1) (gained (ticket_at ts j).held (ticket_at ts (j - 1)))); coordinator = fewer c c.due } ≡ closing ts c v
-  unfolding closing
-  close_later h z = rw (← e, lt-ltb j k h) (go j z)
-    where
-      go : (i : ℕ) → i ≢ 0
-          → record { answer = Ok 0; tickets = slide i k (set ts (i - 1) (gained (ticket_at ts i).held (ticket_at ts (i - 1)))); coordinator = fewer c c.due } ≡ close_at true i ts c
-      go zero y = absurd (y refl)
-      go (suc i) y = let d : suc i - 1 ≡ i = omega arith in rw d
+    pub close_oldest : j ≡ 0 → closing ts c v ≡ record { answer = Ok (ticket_at ts j).held; tickets = slide j k ts; coordinator = fewer c (c.due + (ticket_at ts j).held) }
+    close_oldest z = rw (found, z)
+
+    pub close_later : j ≢ 0
+        → closing ts c v ≡ record { answer = Ok 0; tickets = slide j k (set ts (j - 1) (gained (ticket_at ts j).held (ticket_at ts (j - 1)))); coordinator = fewer c c.due }
+    close_later z = rw found (go j z)
+      where
+        go : (i : ℕ) → i ≢ 0
+            → close_at true i ts c ≡ record { answer = Ok 0; tickets = slide i k (set ts (i - 1) (gained (ticket_at ts i).held (ticket_at ts (i - 1)))); coordinator = fewer c c.due }
+        go zero y = absurd (y refl)
+        go (suc i) y = let d : suc i - 1 ≡ i = omega arith in rw d

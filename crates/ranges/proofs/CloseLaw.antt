@@ -23,9 +23,8 @@ use Rattle.tables.specs.Tables.{Tables, capacity_of, Lengths, Resting, Sound, Me
 use Rattle.tables.proofs.Ranging.{range_held, range_gained}
 use Rattle.tables.proofs.Telling.{sound_whole, sound_sized}
 use Rattle.tables.proofs.Meeting.{met, met_same}
-use Rattle.ranges.specs.declared.Close.{Close}
 use Rattle.ranges.specs.Tickets.{index_of, slide, with_tickets}
-use Rattle.ranges.specs.Close.{CloseReady, close_at, closing, closing_of, closed_tables}
+use Rattle.ranges.specs.Close.{Close, CloseReady, close_at, closing, closing_of, closed_tables}
 use Rattle.ranges.proofs.Tickets.{length_slide, named_ticket, held_ticket, range_found, range_lost, all_at, all_set, all_slide}
 
 -- ---- the ranges that are left

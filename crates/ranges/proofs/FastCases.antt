@@ -65,17 +65,17 @@ module _ (keys : List ℕ) (values : List ℤ) (rows : List ℕ) (counter : ℕ)
       → RangedBy keys values rows counter low high ks vs ks' vs' r
   ranged r e a b = record { answer = sym e; keys_out = rw e a; values_out = rw e b }
 
-  refused : (n : ℕ) → fast_answer nodes low high room ≡ Err n → RangedBy keys values rows counter low high ks vs ks vs (Err n)
+  refused : (n : Refusal) → fast_answer nodes low high room ≡ Err n → RangedBy keys values rows counter low high ks vs ks vs (Err n)
   refused n e = ranged (Err n) e (sym (written_none ks 0)) (sym (written_none vs 0))
 
   pub fast_crossed : lt_z high low ≡ true → RangedBy keys values rows counter low high ks vs ks vs (Err BoundsReversed)
   unfolding fast_answer
-  fast_crossed e = refused 6 (rw e)
+  fast_crossed e = refused BoundsReversed (rw e)
 
   module _ (e : lt_z high low ≡ false) (ks₀ vs₀ ks₁ vs₁ : List ℤ) (r : Walked) (h : WalkedBy keys values rows w 64 ks₀ vs₀ ks₁ vs₁ r) where
     pub fast_many : r.finished ≡ false → RangedBy keys values rows counter low high ks vs ks vs (Err TooManyPairs)
     unfolding fast_answer
-    fast_many f = refused 7 (rw (e, lt-ltb 64 (length nodes) (some_left 64 nodes (sym h.ended ∙ f))))
+    fast_many f = refused TooManyPairs (rw (e, lt-ltb 64 (length nodes) (some_left 64 nodes (sym h.ended ∙ f))))
 
     module _ (f : r.finished ≡ true) where
       few : length nodes ≤ 64
@@ -89,7 +89,7 @@ module _ (keys : List ℕ) (values : List ℤ) (rows : List ℕ) (counter : ℕ)
 
       pub fast_full : room < r.count → RangedBy keys values rows counter low high ks vs ks vs (Err TooFewPlaces)
       unfolding fast_answer
-      fast_full l = refused 8 (rw (e, le-ltb 64 (length nodes) few, lt-ltb room (length nodes) (omega (arith, count))))
+      fast_full l = refused TooFewPlaces (rw (e, le-ltb 64 (length nodes) few, lt-ltb room (length nodes) (omega (arith, count))))
 
       pub fast_given_lem : (ks' vs' : List ℤ) → r.count ≤ room → ks' ≡ written ks 0 (take r.count ks₁) → vs' ≡ written vs 0 (take r.count vs₁)
           → RangedBy keys values rows counter low high ks vs ks' vs' (Ok r.count)

@@ -21,6 +21,7 @@ use Rattle.lists.proofs.Splits.{all_in}
 use Rattle.sizes.specs.Rank.{rank_of}
 use Rattle.sizes.proofs.Ranking.{key_rank}
 use Rattle.levels.specs.Levels.{order_of}
+use Rattle.model.specs.declared.Refusal.TheVariants.{BoundsReversed, AllTicketsOpen, LastVersion}
 use Rattle.model.specs.Model as M
 use Rattle.model.specs.WellFormed.{Rested}
 use Rattle.model.specs.Calls.{«open», refused, opened}
@@ -35,7 +36,6 @@ use Rattle.tables.proofs.Meeting.{met, met_same}
 use Rattle.finds.specs.Near.{NearReady}
 use Rattle.finds.proofs.NearLaw.{near_ready, rest_near}
 use Rattle.finds.proofs.Walking.{near_walkable}
-use Rattle.ranges.specs.declared.Open.{Open}
 use Rattle.ranges.specs.Tickets.{with_tickets}
 use Rattle.ranges.specs.Open as O
 
@@ -86,26 +86,26 @@ module _ (t : Tables) (S : Sound t) (low high : ℤ) (fl : SFits w64 low) (fh : 
   new_rested =
       rw new_range_lem (rested_new (suc c.counter.0) low high (nodes_of t.keys t.values t.rows) S.well.sorted S.well.apart)
 
-  abbrev after : Open → Tables
+  abbrev after : O.Open → Tables
   after r = with_tickets t r.tickets r.coordinator
 
-  abbrev Goal : Open → Type 0
+  abbrev Goal : O.Open → Type 0
   Goal r = Met t (after r) («open» low high) (of_opened r.answer)
 
   counted : length (ranges_of cap t.tickets k) ≡ k
   counted = length-map (take k t.tickets) (range_of cap) ∙ length-take-le k t.tickets (omega (arith, S.lengths.tickets, S.few))
 
-  crossed : lt_z high low ≡ true → Goal (O.open_refused 6 t.tickets c)
+  crossed : lt_z high low ≡ true → Goal (O.open_refused BoundsReversed t.tickets c)
   unfolding view
   crossed e = met_same t («open» low high) (refused 6) S (refuses (view t) («open» low high) 6 (rw e))
 
   module _ (e : lt_z high low ≡ false) where
-    full : leb 16 k ≡ true → Goal (O.open_refused 9 t.tickets c)
+    full : leb 16 k ≡ true → Goal (O.open_refused AllTicketsOpen t.tickets c)
     unfolding view
     full h = met_same t («open» low high) (refused 9) S (refuses (view t) («open» low high) 9 (rw (e, counted, h)))
 
     module _ (room : leb 16 k ≡ false) where
-      last : leb M.last_version c.counter.0 ≡ true → Goal (O.open_refused 10 t.tickets c)
+      last : leb M.last_version c.counter.0 ≡ true → Goal (O.open_refused LastVersion t.tickets c)
       unfolding view
       last h = met_same t («open» low high) (refused 10) S (refuses (view t) («open» low high) 10 (rw (e, counted, room, h)))
 

@@ -16,6 +16,10 @@ use Rattle.lists.specs.Filters.{head_or}
 use Rattle.lists.specs.Buffers.{written}
 use Rattle.lists.proofs.Holding.{all_imp, all_drop}
 use Rattle.sizes.specs.Rank.{key_of}
+use Rattle.std.specs.Prelude.{Result}
+use Rattle.model.specs.declared.Stepped.{Stepped}
+use Rattle.model.specs.declared.Refusal.{Refusal}
+use Rattle.model.specs.declared.Refusal.TheVariants.{NoSuchRange, TooFewPlaces}
 use Rattle.model.specs.Model as M
 use Rattle.model.specs.WellFormed.{Earlier, Rested}
 use Rattle.model.specs.Calls.{step, refused}
@@ -25,7 +29,6 @@ use Rattle.model.proofs.Applied.{step_moves}
 use Rattle.tables.specs.declared.Ticket.{Ticket}
 use Rattle.tables.specs.Tables.{Tables, capacity_of, Resting, Sound, Met, view, rest_of, range_of, ranges_of, nodes_of, ticket_at}
 use Rattle.tables.proofs.Meeting.{met, met_same}
-use Rattle.ranges.specs.declared.Step.{Step}
 use Rattle.ranges.specs.Tickets.{index_of, with_tickets}
 use Rattle.ranges.specs.Walk.{walk_of, stops, needed, handed, rest_after, keys_of, values_of}
 use Rattle.ranges.specs.Step.{Case, refuse, at, stepping, step_nodes, rest_on, step_end, room_of, StepReady, step_given, SteppedBy, stepping_of, stepped_tables}
@@ -110,13 +113,13 @@ module _ (t : Tables) (S : Sound t) where
         Met t (with_tickets t (step_end c t.keys t.rows t.tickets room).tickets t.coordinator) (step v room)
         (of_stepped (written ks 0 (keys_of t.keys (nodes c))) (written vs 0 (values_of t.values (nodes c))) (step_end c t.keys t.rows t.tickets room).answer)
 
-    none_found : k ≤ j → Goal (refuse 11)
+    none_found : k ≤ j → Goal (refuse NoSuchRange)
     unfolding view
     none_found h =
         met_same t (step v room) (refused 11) S
         (refuses (view t) (step v room) 11 (rw (range_lost cap v k t.tickets (omega (arith, S.lengths.tickets, S.few)) h)))
 
-    full : j < k → room ≡ 0 → Goal (refuse 8)
+    full : j < k → room ≡ 0 → Goal (refuse TooFewPlaces)
     unfolding view
     full h z =
         met_same t (step v room) (refused 8) S (refuses (view t) (step v room) 8 (rw (range_found cap v k t.tickets h, eq-eqb room 0 z)))
@@ -166,6 +169,6 @@ module _ (t : Tables) (S : Sound t) where
         go (yes h) (no z) = rw (lt-ltb j k h, ne_eqb room 0 z) (onward h z)
 
     -- LAW: so does whatever step_range comes to
-    pub step_outcome : (ks' vs' : List ℤ) (r : Step) → SteppedBy t.keys t.values t.rows t.tickets k v ks vs ks' vs' r
-        → Met t (with_tickets t r.tickets t.coordinator) (step v room) (of_stepped ks' vs' r.answer)
-    step_outcome ks' vs' r h = rw (h.end, h.keys_out, h.values_out) step_meets
+    pub step_outcome : (ts' : List Ticket) (ks' vs' : List ℤ) (r : Result Stepped Refusal) → SteppedBy t.keys t.values t.rows t.tickets ts' k v ks vs ks' vs' r
+        → Met t (with_tickets t ts' t.coordinator) (step v room) (of_stepped ks' vs' r)
+    step_outcome ts' ks' vs' r h = rw (h.answer, h.tickets, h.keys_out, h.values_out) step_meets

@@ -1,34 +1,38 @@
 -- The open tickets, as the code comes to them and as ranges of the model.
 -- Assumes nothing.
 use mathlib.Core.Path.{◌≡◌, refl, ap}
-use mathlib.Core.Logic.{◌≢◌}
 use mathlib.Core.Bool.{Bool, true, false, cond}
 use mathlib.Core.List.{List, [], ◌∷◌}
 use mathlib.Core.Option.{none, some}
-use Prim.Native.Nat.{ℕ, zero, suc, ◌≤◌, ◌<◌}
+use Prim.Native.Nat.{ℕ, zero, suc, ◌-◌, ◌≤◌, ◌<◌}
 use native.Mathlib.Omega.{arith}
 use lib.ListN.{length, set, take}
-use lib.Seq.{take-nil}
-use lib.Dec.{eqb}
-use borrow.Author.Tests.{eq-eqb, ne_eqb}
+use lib.Seq.{length-take-le, take-nil}
+use lib.Dec.{eqb, ltb}
+use borrow.Author.Tests.{ltb-true}
+use Rattle.std.specs.Prelude.{Some, None}
+use Rattle.std.specs.List.{position_or_len}
+use Rattle.std.proofs.lemmas.List.Recursion.{is_position_or_len}
 use Rattle.lists.specs.Holds.{All}
 use Rattle.lists.specs.Filters.{keep, filter, first}
 use Rattle.model.specs.Model as M
 use Rattle.tables.specs.declared.Ticket.{Ticket}
 use Rattle.tables.specs.Tables.{range_of, ranges_of, ticket_at}
-use Rattle.ranges.specs.Tickets.{index_of, slide}
+use Rattle.ranges.specs.Tickets.{index_of, place_of, slide}
 
 -- ---- closing up
 
-pub slide_step : (i k : ℕ) (ts : List Ticket) → suc i < k → k ≤ length ts → slide (suc i) k (set ts i (ticket_at ts (suc i))) ≡ slide i k ts
-slide_step i zero ts h l = absurd (omega arith)
-slide_step i (suc zero) ts h l = absurd (omega arith)
-slide_step zero (suc (suc k)) [] h l = absurd (omega arith)
-slide_step zero (suc (suc k)) (x ∷ []) h l = absurd (omega arith)
-slide_step zero (suc (suc k)) (x ∷ y ∷ ts) h l = refl
-slide_step (suc i) (suc (suc k)) [] h l = absurd (omega arith)
-slide_step (suc i) (suc (suc k)) (x ∷ ts) h l =
-    ap {B = List Ticket} (λ r. x ∷ r) (slide_step i (suc k) ts (omega arith) (omega arith))
+pub slide_step : (i k : ℕ) (ts : List Ticket) → 0 < i → i < k → k ≤ length ts → slide i k (set ts (i - 1) (ticket_at ts i)) ≡ slide (i - 1) k ts
+slide_step zero k ts p h l = absurd (omega arith)
+slide_step (suc i) k ts p h l = let e : suc i - 1 ≡ i = omega arith in rw e (go i k ts h l)
+  where
+    go : (i k : ℕ) (ts : List Ticket) → suc i < k → k ≤ length ts → slide (suc i) k (set ts i (ticket_at ts (suc i))) ≡ slide i k ts
+    go i zero ts h l = absurd (omega arith)
+    go i (suc zero) ts h l = absurd (omega arith)
+    go i (suc (suc k)) [] h l = absurd (omega arith)
+    go zero (suc (suc k)) (x ∷ []) h l = absurd (omega arith)
+    go zero (suc (suc k)) (x ∷ y ∷ ts) h l = refl
+    go (suc i) (suc (suc k)) (x ∷ ts) h l = ap {B = List Ticket} (λ r. x ∷ r) (go i (suc k) ts (omega arith) (omega arith))
 
 pub slide_end : (i k : ℕ) (ts : List Ticket) → i < k → k ≤ suc i → slide i k ts ≡ ts
 slide_end i zero ts h l = refl
@@ -47,22 +51,35 @@ length_slide zero (suc (suc k)) (x ∷ y ∷ ts) = ap suc (length_slide zero (su
 
 -- ---- the ticket of a version
 
--- the first i tickets are not of the version
-abbrev pub Past : ℕ → ℕ → List Ticket → Type 0
-Past v i ts = (j : ℕ) → j < i → (ticket_at ts j).version.0 ≢ v
+-- LAW: of all these tickets, it is the first that has the version
+pub index_first : (v : ℕ) (ts : List Ticket) → index_of v (length ts) ts ≡ position_or_len (λ (x : Ticket). eqb x.version.0 v) ts
+index_first v =
+    is_position_or_len (λ ts. index_of v (length ts) ts) (λ (x : Ticket). eqb x.version.0 v) refl (λ x xs. ap (cond (eqb x.version.0 v) 0) (omega arith))
 
-pub index_at : (v i k : ℕ) (ts : List Ticket) → i < k → k ≤ length ts → Past v i ts → (ticket_at ts i).version.0 ≡ v → index_of v k ts ≡ i
-index_at v i zero ts h l p e = absurd (omega arith)
-index_at v i (suc k) [] h l p e = absurd (omega arith)
-index_at v zero (suc k) (x ∷ ts) h l p e = rw (eq-eqb x.version.0 v e)
-index_at v (suc i) (suc k) (x ∷ ts) h l p e =
-    rw (ne_eqb x.version.0 v (p 0 (omega arith))) (ap suc (index_at v i k ts (omega arith) (omega arith) (λ j u. p (suc j) (omega arith)) e))
+-- LAW: the first k of them are all that is looked at
+pub index_taken : (v k : ℕ) (ts : List Ticket) → index_of v k (take k ts) ≡ index_of v k ts
+index_taken v zero ts = refl
+index_taken v (suc k) [] = refl
+index_taken v (suc k) (x ∷ ts) = ap (λ (n : ℕ). cond (eqb x.version.0 v) 0 (suc n)) (index_taken v k ts)
 
-pub index_none : (v k : ℕ) (ts : List Ticket) → k ≤ length ts → Past v k ts → index_of v k ts ≡ k
-index_none v zero ts l p = refl
-index_none v (suc k) [] l p = refl
-index_none v (suc k) (x ∷ ts) l p =
-    rw (ne_eqb x.version.0 v (p 0 (omega arith))) (ap suc (index_none v k ts (omega arith) (λ j u. p (suc j) (omega arith))))
+-- LAW: where one of the first k is searched
+pub place_taken : (v k : ℕ) (ts : List Ticket) → k ≤ length ts → place_of v (take k ts) ≡ cond (ltb (index_of v k ts) k) (Some (index_of v k ts)) None
+place_taken v k ts l = rw (length-take-le k ts l, index_taken v k ts)
+
+-- LAW: and what its answer says of the index
+pub not_found : (v k : ℕ) (ts : List Ticket) → k ≤ length ts → place_of v (take k ts) ≡ None → ltb (index_of v k ts) k ≡ false
+not_found v k ts l e = go (ltb (index_of v k ts) k) (rw (place_taken v k ts l) at e)
+  where
+    go : (b : Bool) → cond b (Some (index_of v k ts)) None ≡ None → b ≡ false
+    go true e = cc
+    go false e = refl
+
+pub is_found : (v k : ℕ) (ts : List Ticket) (j : ℕ) → k ≤ length ts → place_of v (take k ts) ≡ Some j → (index_of v k ts ≡ j) × (ltb (index_of v k ts) k ≡ true) × (j < k)
+is_found v k ts j l e = go (ltb (index_of v k ts) k) refl (rw (place_taken v k ts l) at e)
+  where
+    go : (b : Bool) → ltb (index_of v k ts) k ≡ b → cond b (Some (index_of v k ts)) None ≡ Some j → (index_of v k ts ≡ j) × (ltb (index_of v k ts) k ≡ true) × (j < k)
+    go true q e = let i : index_of v k ts ≡ j = cc in (i, q, rw i at (ltb-true (index_of v k ts) k q))
+    go false q e = absurd (cc)
 
 -- ---- and the range of the model
 

@@ -38,9 +38,9 @@ step_end (refuse n) keys rows ts room = record { answer = Err n; tickets = ts }
 step_end (at j) keys rows ts room =
     record {
       answer = Ok (record {
-          pairs = length (handed keys rows (walk_of (ticket_at ts j)) room);
-          finished = finished keys rows (walk_of (ticket_at ts j)) room;
-        });
+        pairs = length (handed keys rows (walk_of (ticket_at ts j)) room);
+        finished = finished keys rows (walk_of (ticket_at ts j)) room;
+      });
       tickets = set ts j (rest_on (rest_after keys rows (walk_of (ticket_at ts j)) room) (ticket_at ts j));
     }
 
@@ -60,8 +60,9 @@ step_of keys rows ts k v room = step_end (stepping ts k v room) keys rows ts roo
 abbrev pub step_given : List ℕ → List ℕ → List Ticket → ℕ → ℕ → ℕ → List ℕ
 step_given keys rows ts k v room = step_nodes (stepping ts k v room) keys rows ts room
 
-pub record SteppedBy (keys : List ℕ) (values : List ℤ) (rows : List ℕ) (ts : List Ticket) (k v : ℕ) (ks vs ks' vs' : List ℤ) (r : Step) : Type 0 where
-  pub end : r ≡ step_of keys rows ts k v (room_of ks vs)
+pub record SteppedBy (keys : List ℕ) (values : List ℤ) (rows : List ℕ) (ts ts' : List Ticket) (k v : ℕ) (ks vs ks' vs' : List ℤ) (r : Result Stepped Refusal) : Type 0 where
+  pub answer : r ≡ (step_of keys rows ts k v (room_of ks vs)).answer
+  pub tickets : ts' ≡ (step_of keys rows ts k v (room_of ks vs)).tickets
   pub keys_out : ks' ≡ written ks 0 (keys_of keys (step_given keys rows ts k v (room_of ks vs)))
   pub values_out : vs' ≡ written vs 0 (values_of values (step_given keys rows ts k v (room_of ks vs)))
 

@@ -62,14 +62,14 @@ pub fn close_range(
 }
 
 // Whether a range of that version may rest on the node. A version of 64 bits: that of a range opened now may be one more than the last.
+#[tactic(auto, unfolding(crate::specs::Walk::may_rest))]
 fn may_rest(rows: &[u32], n: u32, version: u64) -> bool
     requires { Row rows.now n }
     ensures { result ≡ may_rest rows.now version n }
 {
-    if version <= u64::from(tables::inserted(rows, n).0) {
-        return false;
-    }
-    cell(rows, n, Column::Place) == IS_PRESENT || version <= u64::from(tables::removed(rows, n).0)
+    u64::from(tables::inserted(rows, n).0) < version
+        && (cell(rows, n, Column::Place) == IS_PRESENT
+            || version <= u64::from(tables::removed(rows, n).0))
 }
 
 // How a walk ended: how many pairs it handed out, whether none is left, and where the range rests then.
@@ -238,7 +238,14 @@ pub fn fast_range(
     if high < low {
         return Err(Refusal::BoundsReversed);
     }
-    let rest = finds::near(keys, rows, buckets, sizes::rank(low), Direction::After, true);
+    let rest = finds::near(
+        keys,
+        rows,
+        buckets,
+        sizes::rank(low),
+        Direction::After,
+        true,
+    );
     let mut found_keys = [0i64; FAST];
     let mut found_values = [0i64; FAST];
     let walked = walk_range(

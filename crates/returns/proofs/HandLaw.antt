@@ -1,5 +1,7 @@
 -- What the cells of a hand-over mean: the model's answer, the model's next state, and sound tables.
 -- Assumes nothing.
+use Rattle.std.specs.Prelude.{Result, Ok, Err}
+use Rattle.model.specs.declared.Refusal.{Refusal}
 use Rattle.model.specs.declared.Refusal.TheVariants.{NodeNotPending}
 use mathlib.Core.Path.{◌≡◌, refl, ap, ◌∙◌, subst}
 use mathlib.Core.Logic.{◌≢◌, ⊎_elim}
@@ -33,7 +35,7 @@ use Rattle.model.specs.Model as M
 use Rattle.model.specs.Calls.{hand_over, refused, handed}
 use Rattle.model.specs.Answers.{of_handed}
 use Rattle.model.specs.declared.Handed.{Handed}
-use Rattle.model.specs.declared.Handed.TheVariants.{Err, Freed, Held}
+use Rattle.model.specs.declared.Handed.TheVariants.{Freed, Held}
 use Rattle.tables.specs.declared.Ticket.{Ticket}
 use Rattle.tables.specs.Tables.{Tables, capacity_of, levels_of, Memory, Used, Resting, Sound, Met, view, place_of, node_at, nodes_of, range_of, ranges_of, ticket_at, gained}
 use Rattle.tables.proofs.Viewing.{shows, shows_none, nodes_moved}
@@ -102,10 +104,10 @@ module _ (t : Tables) (S : Sound t) (n : ℕ) where
   abbrev rows : List ℕ
   rows = t.rows
 
-  abbrev Goal : Handed → Type 0
+  abbrev Goal : Result Handed Refusal → Type 0
   Goal h = Met t (handed_tables h t n) (hand_over n) (of_handed h)
 
-  finish : (h : Handed) → handing_of t n ≡ h → Goal h → Goal (handing_of t n)
+  finish : (h : Result Handed Refusal) → handing_of t n ≡ h → Goal h → Goal (handing_of t n)
   finish h e g = rw e g
 
   out : All (Differ n) (order_of rows cap) → Goal (Err NodeNotPending)
@@ -141,11 +143,11 @@ module _ (t : Tables) (S : Sound t) (n : ℕ) where
         hand_some (view t) n (node_at t.keys t.values rows n) (find p)
         ∙ hand_pending (view t) n (insertions rows n) (places rows n) (removals rows n) e
 
-    freeing : M.unseen (insertions rows n) (last (ranges_of cap t.tickets k)) ≡ true → Goal Freed
+    freeing : M.unseen (insertions rows n) (last (ranges_of cap t.tickets k)) ≡ true → Goal (Ok Freed)
     unfolding view
     freeing u =
         let size = sound_sized t S in
-        met t (handed_tables Freed t n) (hand_over n) (handed 1) S
+        met t (handed_tables (Ok Freed) t n) (hand_over n) (handed 1) S
         (record {
           known = S.lengths.known;
           values = S.lengths.values;
@@ -195,16 +197,16 @@ module _ (t : Tables) (S : Sound t) (n : ℕ) where
           counted = retired_counted rows cap n S.memory.counted l (sound_sized t S) S.memory.seated off (omega arith);
         }
 
-    holding : k ≢ 0 → M.unseen (insertions rows n) (last (ranges_of cap t.tickets k)) ≡ false → Goal Held
+    holding : k ≢ 0 → M.unseen (insertions rows n) (last (ranges_of cap t.tickets k)) ≡ false → Goal (Ok Held)
     unfolding view
     holding z u =
         let order : nodes_of t.keys t.values (retired rows cap n) ≡ M.retire n (removals rows n) (nodes_of t.keys t.values rows) =
         rw ordered (nodes_moved t.keys t.values rows (retired rows cap n) n 3 (same 0 (omega arith)) (same 1 (omega arith)) (same 2 (omega arith)) placed (order_of rows cap)) in
         let d : suc (k - 1) ≡ k = omega arith in
-        let ranges : ranges_of cap (handed_tickets Held t.tickets k) k ≡ M.hold (ranges_of cap t.tickets k) =
-        subst (λ (j : ℕ). ranges_of cap (handed_tickets Held t.tickets k) j ≡ M.hold (ranges_of cap t.tickets j)) d
+        let ranges : ranges_of cap (handed_tickets (Ok Held) t.tickets k) k ≡ M.hold (ranges_of cap t.tickets k) =
+        subst (λ (j : ℕ). ranges_of cap (handed_tickets (Ok Held) t.tickets k) j ≡ M.hold (ranges_of cap t.tickets j)) d
         (range_hold cap t.tickets (k - 1) (omega (arith, S.lengths.tickets, S.few))) in
-        met t (handed_tables Held t n) (hand_over n) (handed 0) S
+        met t (handed_tables (Ok Held) t n) (hand_over n) (handed 0) S
         (record {
           known = S.lengths.known;
           values = S.lengths.values;
@@ -230,13 +232,13 @@ module _ (t : Tables) (S : Sound t) (n : ℕ) where
     pending = go (ℕ_discrete k 0)
       where
         later : k ≢ 0 → Dec ((ticket_at t.tickets (k - 1)).version.0 ≤ insertions rows n) → Goal (handing_of t n)
-        later z (yes h) = finish Freed (case_new rows cap t.tickets k n l e z h) (freeing (rw (latest z) (le-leb _ _ h)))
+        later z (yes h) = finish (Ok Freed) (case_new rows cap t.tickets k n l e z h) (freeing (rw (latest z) (le-leb _ _ h)))
         later z (no h) =
-            finish Held (case_old rows cap t.tickets k n l e z (omega arith))
+            finish (Ok Held) (case_old rows cap t.tickets k n l e z (omega arith))
             (holding z (rw (latest z) (lt-leb (ticket_at t.tickets (k - 1)).version.0 (insertions rows n) (omega arith))))
 
         go : Dec (k ≡ 0) → Goal (handing_of t n)
-        go (yes z) = finish Freed (case_none rows cap t.tickets k n l e z) (freeing (rw z))
+        go (yes z) = finish (Ok Freed) (case_none rows cap t.tickets k n l e z) (freeing (rw z))
         go (no z) = later z (dec_le (ticket_at t.tickets (k - 1)).version.0 (insertions rows n))
 
   -- LAW: hand over meets the model

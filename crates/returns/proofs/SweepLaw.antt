@@ -18,6 +18,7 @@ use Rattle.places.proofs.Retiring.{taken_length, taken_others, taken_places, tak
 use Rattle.places.proofs.Counting.{taken_counted}
 use Rattle.buckets.specs.Buckets.{Buckets}
 use Rattle.buckets.proofs.Keeping.{buckets_kept}
+use Rattle.std.specs.Prelude.{Ok}
 use Rattle.model.specs.Model as M
 use Rattle.model.specs.Calls.{sweep, swept}
 use Rattle.model.specs.Answers.{of_swept}
@@ -102,11 +103,11 @@ module _ (t : Tables) (S : Sound t) where
       }
 
   -- LAW: sweep meets the model
-  pub sweep_meets : Met t (swept_tables t.coordinator.due t) sweep (of_swept (sweeping t.coordinator.due))
+  pub sweep_meets : Met t (swept_tables t.coordinator.due t) sweep (of_swept (Ok (sweeping t.coordinator.due)))
   unfolding view
   sweep_meets = go t.coordinator.due refl
     where
-      go : (d : ℕ) → t.coordinator.due ≡ d → Met t (swept_tables d t) sweep (of_swept (sweeping d))
+      go : (d : ℕ) → t.coordinator.due ≡ d → Met t (swept_tables d t) sweep (of_swept (Ok (sweeping d)))
       go zero e = met t (swept_tables 0 t) sweep (swept 0 0) S (record { known = S.lengths.known; values = S.lengths.values; rows = S.lengths.rows; buckets = S.lengths.buckets; tickets = S.lengths.tickets })
           S.memory S.hashed S.few S.resting (sweep_none (view t) e ∙ rw e)
       go (suc d) e =

@@ -41,7 +41,7 @@ pub fn hand_over(
         return Ok(Handed::Freed);
     }
     let latest = ranges as usize - 1;
-    if tickets[latest].version.0 <= tables::inserted(rows, n).0 {
+    if tickets[latest].version <= tables::inserted(rows, n) {
         free_node(rows, cap, n);
         return Ok(Handed::Freed);
     }

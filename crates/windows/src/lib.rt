@@ -83,6 +83,7 @@ pub enum FetchError {
 }
 
 impl fmt::Display for FetchError {
+    // What a program tells of it, behind its own name.
     fn fmt<W: fmt::Write>(&self, f: &mut fmt::Formatter<W>) -> fmt::Result {
         f.write_str(match self {
             FetchError::NoRoom => "no room to read standard input",
@@ -97,6 +98,7 @@ impl Error for FetchError {}
 impl From<io::Error> for FetchError {
     ghost from_gives = { λ error fetch_error. fetch_error ≡ FetchError.Read error };
 
+    // Reading is all that fails with an error of the system here.
     fn from(error: io::Error) -> FetchError {
         FetchError::Read(error)
     }

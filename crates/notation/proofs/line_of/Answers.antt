@@ -11,29 +11,29 @@ use Rattle.notation.proofs.line_of.Goals as goal
 header-code : (code : ℕ) → code < 15 → Past 14 code → code ≡ 14
 header-code code h p = last_code 14 code (omega arith) p
 
-pub narrow-requires : goal.narrow-requires
+pub overflow_cast-result : goal.overflow_cast-result
 unfolding kinds
-narrow-requires c = let p = rw c.in-3.is at c.requires.1 in p.0 refl
+overflow_cast-result c = let p = rw c.in-3.is at c.requires.1 in record { fits = omega (arith, p.0 refl) }
 
-pub narrow-requires-in-10 : goal.narrow-requires-in-10
+pub overflow_cast-result-in-10 : goal.overflow_cast-result-in-10
 unfolding kinds
-narrow-requires-in-10 c = let p = rw c.in-10.is at c.requires.1 in p.0 refl
+overflow_cast-result-in-10 c = let p = rw c.in-10.is at c.requires.1 in record { fits = omega (arith, p.0 refl) }
 
-pub narrow-requires-in-10-2 : goal.narrow-requires-in-10-2
+pub overflow_cast-result-in-10-2 : goal.overflow_cast-result-in-10-2
 unfolding kinds
-narrow-requires-in-10-2 c = let p = rw c.in-10.is at c.requires.1 in p.2.0 refl
+overflow_cast-result-in-10-2 c = let p = rw c.in-10.is at c.requires.1 in record { fits = omega (arith, p.2.0 refl) }
 
-pub narrow-requires-in-11 : goal.narrow-requires-in-11
+pub overflow_cast-result-in-11 : goal.overflow_cast-result-in-11
 unfolding kinds
-narrow-requires-in-11 c = let p = rw c.in-11.is at c.requires.1 in p.0 refl
+overflow_cast-result-in-11 c = let p = rw c.in-11.is at c.requires.1 in record { fits = omega (arith, p.0 refl) }
 
-pub narrow-requires-in_default : goal.narrow-requires-in_default
+pub overflow_cast-result-in_default : goal.overflow_cast-result-in_default
 unfolding kinds
-narrow-requires-in_default c = let p = rw (header-code c.args.code c.requires.0 c.in_default.in_default-own.rest) at c.requires.1 in p.0 refl
+overflow_cast-result-in_default c = let p = rw (header-code c.args.code c.requires.0 c.in_default.in_default-own.rest) at c.requires.1 in record { fits = omega (arith, p.0 refl) }
 
-pub narrow-requires-in_default-2 : goal.narrow-requires-in_default-2
+pub overflow_cast-result-in_default-2 : goal.overflow_cast-result-in_default-2
 unfolding kinds
-narrow-requires-in_default-2 c = let p = rw (header-code c.args.code c.requires.0 c.in_default.in_default-own.rest) at c.requires.1 in p.2.2.0 refl
+overflow_cast-result-in_default-2 c = let p = rw (header-code c.args.code c.requires.0 c.in_default.in_default-own.rest) at c.requires.1 in record { fits = omega (arith, p.2.2.0 refl) }
 
 pub returns-in-0 : goal.returns-in-0
 unfolding kinds
@@ -41,7 +41,7 @@ returns-in-0 c = rw c.in-0.is (ap (λ x. numbers (0 ∷ x ∷ [])) (signed c.unt
 
 pub returns-in-1 : goal.returns-in-1
 unfolding kinds
-returns-in-1 c = rw c.in-1.is (ap₂ (λ x y. numbers (1 ∷ x ∷ y ∷ c.args.numbers.third ∷ [])) (signed c.unturn-in-1.type_inv c.unturn-in-1.ensures) (signed c.unturn-in-1-2.type_inv c.unturn-in-1-2.ensures))
+returns-in-1 c = rw c.in-1.is (ap₂ (λ x y. numbers (1 ∷ x ∷ y ∷ c.args.c ∷ [])) (signed c.unturn-in-1.type_inv c.unturn-in-1.ensures) (signed c.unturn-in-1-2.type_inv c.unturn-in-1-2.ensures))
 
 pub returns-in-2 : goal.returns-in-2
 unfolding kinds
@@ -49,7 +49,7 @@ returns-in-2 c = rw c.in-2.is (ap (λ x. numbers (2 ∷ x ∷ [])) (signed c.unt
 
 pub returns-in-3 : goal.returns-in-3
 unfolding kinds
-returns-in-3 c = rw c.in-3.is (ap (λ x. numbers (3 ∷ x ∷ [])) c.narrow.ensures)
+returns-in-3 c = rw c.in-3.is refl
 
 pub returns-in-4 : goal.returns-in-4
 unfolding kinds
@@ -77,11 +77,11 @@ returns-in-9 c = rw c.in-9.is (ap₂ (λ x y. numbers (9 ∷ x ∷ y ∷ [])) (s
 
 pub returns-in-10 : goal.returns-in-10
 unfolding kinds
-returns-in-10 c = rw c.in-10.is (ap₂ (λ x y. numbers (10 ∷ x ∷ y ∷ [])) c.narrow-in-10.ensures c.narrow-in-10-2.ensures)
+returns-in-10 c = rw c.in-10.is refl
 
 pub returns-in-11 : goal.returns-in-11
 unfolding kinds
-returns-in-11 c = rw c.in-11.is (ap (λ x. numbers (11 ∷ x ∷ [])) c.narrow-in-11.ensures)
+returns-in-11 c = rw c.in-11.is refl
 
 pub returns-in-12 : goal.returns-in-12
 unfolding kinds
@@ -97,4 +97,4 @@ returns-in_default c =
     let e = header-code c.args.code c.requires.0 c.in_default.in_default-own.rest in
     let p = rw e at c.requires.1 in
     let z = p.2.1 refl in
-    rw (e, z) (ap₂ (λ x y. numbers (14 ∷ x ∷ 0 ∷ y ∷ [])) c.narrow-in_default.ensures c.narrow-in_default-2.ensures)
+    rw (e, z) refl

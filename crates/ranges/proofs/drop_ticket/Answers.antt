@@ -1,41 +1,12 @@
--- `ranges::drop_ticket` meets its contract. The invariant: from i on, what is left to do comes to the same.
-use borrow.Author.Rules.{rules}
-use mathlib.Core.Path.{refl, sym, ◌∙◌}
-use native.Mathlib.Omega.{arith}
-use native.Mathlib.Numerals.{add-one}
-use lib.ListN.{length-set}
+-- `ranges::drop_ticket` meets its contract.
+use Rattle.std.proofs.Common.{◌≡◌, ◌-◌, ◌+◌, sym, ◌∙◌, arith}
 use Rattle.ranges.proofs.Tickets.{slide_step, slide_end}
 use Rattle.ranges.proofs.drop_ticket.Goals as goal
 
-pub loop-i-init : goal.loop-i-init
-loop-i-init c = (omega arith, search rules, refl)
-
-pub overflow_add-i : goal.overflow_add-i
-overflow_add-i c = omega arith
-
-pub overflow_add-ticket : goal.overflow_add-ticket
-overflow_add-ticket c = omega arith
-
-pub offset_bounds-after-i : goal.offset_bounds-after-i
-offset_bounds-after-i c = omega arith
-
-pub bounds-after-i : goal.bounds-after-i
-bounds-after-i c = omega arith
-
-pub offset_bounds-after-i-in-loop-i : goal.offset_bounds-after-i-in-loop-i
-offset_bounds-after-i-in-loop-i c = omega arith
-
-pub bounds-after-i-in-loop-i : goal.bounds-after-i-in-loop-i
-bounds-after-i-in-loop-i c = omega arith
-
-pub overflow_add-i-in-loop-i : goal.overflow_add-i-in-loop-i
-overflow_add-i-in-loop-i c = omega arith
-
-pub loop-i-smaller : goal.loop-i-smaller
-loop-i-smaller c = omega arith
-
 pub loop-i-preserved : goal.loop-i-preserved
-loop-i-preserved c = (omega arith, simp length-set c.loop-i.invariant.1, rw add-one (slide_step c.loop-i.i c.args.ranges c.loop-i.after (omega arith) (omega (arith, c.loop-i.invariant.1, c.requires.1)) ∙ c.loop-i.invariant.2))
+loop-i-preserved c =
+    let same : c.loop-i.i + 1 - 1 ≡ c.loop-i.i = omega arith in
+    rw same (slide_step c.loop-i.i c.args.ranges c.loop-i.tickets (omega arith) (omega arith) (omega arith) ∙ c.loop-i.invariant)
 
 pub returns : goal.returns
-returns c = sym (slide_end c.loop-i.i c.args.ranges c.loop-i.after (omega arith) (omega arith)) ∙ c.loop-i.invariant.2
+returns c = sym (slide_end (c.loop-i.i - 1) c.args.ranges c.loop-i.tickets (omega arith) (omega arith)) ∙ c.loop-i.invariant

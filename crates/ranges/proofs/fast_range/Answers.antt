@@ -28,28 +28,28 @@ pub returns-then-not-walked : goal.returns-then-not-walked
 returns-then-not-walked c =
     let a = c.args in
     let f = c.ranges in
-    let walked = rw (c.long.ensures, c.near-rest.ensures, c.rank-2.ensures, c.rank.ensures, to_z-of_z w64 a.high f.high, to_z-of_z w64 a.low f.low) at c.walk_range-walked.ensures in
+    let walked = rw (c.from.ensures, c.near-rest.ensures, c.rank-2.ensures, c.rank.ensures, to_z-of_z w64 a.high f.high, to_z-of_z w64 a.low f.low) at c.walk_range-walked.ensures in
     fast_many a.keys.now a.values.now a.rows.now a.counter.0 a.low a.high a.out_keys.now a.out_values.now (signed_lt a.high a.low false f.high f.low c.if-high-low.false) _ _ _ _ c.walk_range-walked.result walked (not-true _ c.if-not-walked.true)
 
-pub returns-then-smaller-count : goal.returns-then-smaller-count
-returns-then-smaller-count c =
+pub returns-then-min-count : goal.returns-then-min-count
+returns-then-min-count c =
     let a = c.args in
     let f = c.ranges in
-    let walked = rw (c.long.ensures, c.near-rest.ensures, c.rank-2.ensures, c.rank.ensures, to_z-of_z w64 a.high f.high, to_z-of_z w64 a.low f.low) at c.walk_range-walked.ensures in
-    fast_full a.keys.now a.values.now a.rows.now a.counter.0 a.low a.high a.out_keys.now a.out_values.now (signed_lt a.high a.low false f.high f.low c.if-high-low.false) _ _ _ _ c.walk_range-walked.result walked (not-false _ c.if-not-walked.false) (rw c.smaller.ensures at c.if-smaller-count.true)
+    let walked = rw (c.from.ensures, c.near-rest.ensures, c.rank-2.ensures, c.rank.ensures, to_z-of_z w64 a.high f.high, to_z-of_z w64 a.low f.low) at c.walk_range-walked.ensures in
+    fast_full a.keys.now a.values.now a.rows.now a.counter.0 a.low a.high a.out_keys.now a.out_values.now (signed_lt a.high a.low false f.high f.low c.if-high-low.false) _ _ _ _ c.walk_range-walked.result walked (not-false _ c.if-not-walked.false) (rw c.min.ensures at c.if-min-count.true)
 
 pub lay-requires : goal.lay-requires
-lay-requires c = ((walked_laid c.walk_range-walked.ensures).0, omega (arith, c.smaller.ensures))
+lay-requires c = ((walked_laid c.walk_range-walked.ensures).0, omega (arith, c.min.ensures))
 
 pub lay-requires-2 : goal.lay-requires-2
-lay-requires-2 c = ((walked_laid c.walk_range-walked.ensures).1, omega (arith, c.smaller.ensures))
+lay-requires-2 c = ((walked_laid c.walk_range-walked.ensures).1, omega (arith, c.min.ensures))
 
-pub overflow_cast-pairs : goal.overflow_cast-pairs
-overflow_cast-pairs c = omega (arith, walked_few c.walk_range-walked.ensures, c.requires.near.small)
+pub overflow_cast-result : goal.overflow_cast-result
+overflow_cast-result c = omega (arith, walked_few c.walk_range-walked.ensures, c.requires.near.small)
 
 pub returns : goal.returns
 returns c =
     let a = c.args in
     let f = c.ranges in
-    let walked = rw (c.long.ensures, c.near-rest.ensures, c.rank-2.ensures, c.rank.ensures, to_z-of_z w64 a.high f.high, to_z-of_z w64 a.low f.low) at c.walk_range-walked.ensures in
-    fast_given_lem a.keys.now a.values.now a.rows.now a.counter.0 a.low a.high a.out_keys.now a.out_values.now (signed_lt a.high a.low false f.high f.low c.if-high-low.false) _ _ _ _ c.walk_range-walked.result walked (not-false _ c.if-not-walked.false) _ _ (rw c.smaller.ensures at c.if-smaller-count.false) c.lay.ensures c.lay-2.ensures
+    let walked = rw (c.from.ensures, c.near-rest.ensures, c.rank-2.ensures, c.rank.ensures, to_z-of_z w64 a.high f.high, to_z-of_z w64 a.low f.low) at c.walk_range-walked.ensures in
+    fast_given_lem a.keys.now a.values.now a.rows.now a.counter.0 a.low a.high a.out_keys.now a.out_values.now (signed_lt a.high a.low false f.high f.low c.if-high-low.false) _ _ _ _ c.walk_range-walked.result walked (not-false _ c.if-not-walked.false) _ _ (rw c.min.ensures at c.if-min-count.false) c.lay.ensures c.lay-2.ensures

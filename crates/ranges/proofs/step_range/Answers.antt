@@ -1,38 +1,26 @@
 -- `ranges::step_range` meets its contract: one law for each return.
-use mathlib.Core.Path.{◌≡◌, sym, ◌∙◌}
+use mathlib.Core.Path.{refl, sym, ◌∙◌}
 use native.Mathlib.Omega.{arith}
-use Rattle.ranges.specs.Tickets.{index_of}
+use Rattle.ranges.proofs.Tickets.{is_found}
 use Rattle.ranges.proofs.Walking.{walked_few}
 use Rattle.ranges.proofs.StepCases.{step_none, step_full, step_on}
 use Rattle.ranges.proofs.step_range.Goals as goal
 
-pub returns-then-j-open : goal.returns-then-j-open
-returns-then-j-open c =
+pub returns-in_default : goal.returns-in_default
+returns-in_default c =
     let a = c.args in
-    let w = c.wide-open.ensures in
-    let j = c.find_ticket-j in
-    let e : j.result ≡ index_of a.version.0 a.ranges a.tickets = j.ensures ∙ rw w in
-    step_none a.keys.now a.values.now a.rows.now a.tickets a.ranges a.version.0 a.out_keys.now a.out_values.now j.result e (omega (arith, w))
+    step_none a.keys.now a.values.now a.rows.now a.tickets.now a.ranges a.version.0 a.out_keys.now a.out_values.now (omega (arith, c.requires.few)) (sym c.find_ticket.ensures ∙ c.in_default.is)
 
 pub returns-then-room-eq0 : goal.returns-then-room-eq0
 returns-then-room-eq0 c =
     let a = c.args in
-    let w = c.wide-open.ensures in
-    let j = c.find_ticket-j in
-    let e : j.result ≡ index_of a.version.0 a.ranges a.tickets = j.ensures ∙ rw w in
-    step_full a.keys.now a.values.now a.rows.now a.tickets a.ranges a.version.0 a.out_keys.now a.out_values.now j.result e (omega (arith, w)) (sym c.smaller-room.ensures ∙ c.if-room-eq0.true)
+    step_full a.keys.now a.values.now a.rows.now a.tickets.now a.ranges a.version.0 a.out_keys.now a.out_values.now (omega (arith, c.requires.few)) c.in-Some.j (sym c.find_ticket.ensures ∙ c.in-Some.is) (sym c.min-room.ensures ∙ c.if-room-eq0.true)
 
-pub walk_range-walked-requires : goal.walk_range-walked-requires
-walk_range-walked-requires c = (c.requires.ready c.find_ticket-j.result (omega (arith, c.wide-open.ensures)), omega (arith, c.smaller-room.ensures), omega (arith, c.smaller-room.ensures))
-
-pub overflow_cast-count : goal.overflow_cast-count
-overflow_cast-count c = omega (arith, walked_few c.walk_range-walked.ensures, (c.requires.ready c.find_ticket-j.result (omega (arith, c.wide-open.ensures))).small)
+pub overflow_cast-result : goal.overflow_cast-result
+overflow_cast-result c = omega (arith, walked_few c.walk_range-walked.ensures, (c.requires.ready c.in-Some.j (is_found c.args.version.0 c.args.ranges c.args.tickets.now c.in-Some.j (omega (arith, c.requires.few)) (sym c.find_ticket.ensures ∙ c.in-Some.is)).2).small)
 
 pub returns : goal.returns
 returns c =
     let a = c.args in
-    let w = c.wide-open.ensures in
-    let j = c.find_ticket-j in
-    let e : j.result ≡ index_of a.version.0 a.ranges a.tickets = j.ensures ∙ rw w in
-    let walked = rw (c.long.ensures, c.smaller-room.ensures) at c.walk_range-walked.ensures in
-    step_on a.keys.now a.values.now a.rows.now a.tickets a.ranges a.version.0 a.out_keys.now a.out_values.now j.result e _ _ c.walk_range-walked.result (omega (arith, w)) (λ z. c.if-room-eq0.false (c.smaller-room.ensures ∙ z)) walked
+    let walked = rw (c.from.ensures, c.min-room.ensures) at c.walk_range-walked.ensures in
+    step_on a.keys.now a.values.now a.rows.now a.tickets.now a.ranges a.version.0 a.out_keys.now a.out_values.now (omega (arith, c.requires.few)) c.in-Some.j (sym c.find_ticket.ensures ∙ c.in-Some.is) _ _ _ c.walk_range-walked.result (λ z. c.if-room-eq0.false (c.min-room.ensures ∙ z)) walked refl

@@ -1,5 +1,4 @@
 -- `ranges::walk_range` meets its contract. The invariant: what was handed out, with what is ahead, is all that the range may rest on.
-use mathlib.Core.Path.{◌≡◌}
 use lib.ListN.{length}
 use Rattle.levels.specs.Levels.{onward}
 use Rattle.ranges.specs.Walk.{walk}
@@ -9,8 +8,6 @@ use Rattle.ranges.proofs.walk_range.Given as goal
 abbrev pub invariant-loop-m : goal.invariant-loop-m
 invariant-loop-m l =
     Going l.keys l.values l.rows (walk l.version l.high l.rest) l.room l.initial.out_keys l.initial.out_values l.out_keys l.out_values l.m l.i
-    × (length l.out_keys ≡ length l.initial.out_keys)
-    × (length l.out_values ≡ length l.initial.out_values)
 
 abbrev pub decreases-loop-m : goal.decreases-loop-m
 decreases-loop-m l = length (onward l.rows (length l.keys) 0 l.m)

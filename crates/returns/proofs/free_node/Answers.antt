@@ -7,9 +7,6 @@ use Rattle.levels.proofs.Joining.{length_unstitched, unstitched_field}
 use Rattle.returns.specs.Freeing.{freed}
 use Rattle.returns.proofs.free_node.Goals as goal
 
-pub unstitch-requires : goal.unstitch-requires
-unstitch-requires c = rw c.cell-height.ensures c.requires.linked
-
 pub release-requires : goal.release-requires
 release-requires c =
     let rows = c.args.rows.now in

@@ -18,7 +18,7 @@ pub returns-in-Remove : goal.returns-in-Remove
 returns-in-Remove c = put_as c.put_one-in-Remove.ensures (ap (λ z. line_after (name_of 2) (z ∷ [])) (handed c.in-Remove.k c.in-Remove.known_told-in-Remove-1-own.given.0.1) ∙ sym (ap text_of c.in-Remove.is))
 
 pub returns-in-HandOver : goal.returns-in-HandOver
-returns-in-HandOver c = put_as c.put_one-in-HandOver.ensures (ap (λ z. line_after (name_of 3) (z ∷ [])) (handed c.wide.result c.wide.type_inv ∙ c.wide.ensures) ∙ sym (ap text_of c.in-HandOver.is))
+returns-in-HandOver c = put_as c.put_one-in-HandOver.ensures (ap (λ z. line_after (name_of 3) (z ∷ [])) (handed c.from.result c.from.type_inv ∙ c.from.ensures) ∙ sym (ap text_of c.in-HandOver.is))
 
 pub returns-in-Ceil : goal.returns-in-Ceil
 returns-in-Ceil c = put_as c.put_one-in-Ceil.ensures (ap (λ z. line_after (name_of 4) (z ∷ [])) (handed c.in-Ceil.k c.in-Ceil.known_told-in-Ceil-1-own.given.0.1) ∙ sym (ap text_of c.in-Ceil.is))
@@ -39,10 +39,10 @@ pub returns-in-Open : goal.returns-in-Open
 returns-in-Open c = put_as c.put_two-in-Open.ensures (ap₂ (λ y z. line_after (name_of 9) (y ∷ z ∷ [])) (handed c.in-Open.l c.in-Open.known_told-in-Open-1-own.given.0.1) (handed c.in-Open.r c.in-Open.known_told-in-Open-1-own.given.1.0.1) ∙ sym (ap text_of c.in-Open.is))
 
 pub returns-in-Step : goal.returns-in-Step
-returns-in-Step c = put_as c.put_two-in-Step.ensures (ap₂ (λ y z. line_after (name_of 10) (y ∷ z ∷ [])) (handed c.wide-in-Step.result c.wide-in-Step.type_inv ∙ c.wide-in-Step.ensures) (handed c.wide-in-Step-2.result c.wide-in-Step-2.type_inv ∙ c.wide-in-Step-2.ensures) ∙ sym (ap text_of c.in-Step.is))
+returns-in-Step c = put_as c.put_two-in-Step.ensures (ap₂ (λ y z. line_after (name_of 10) (y ∷ z ∷ [])) (handed c.from-in-Step.result c.from-in-Step.type_inv ∙ c.from-in-Step.ensures) (handed c.from-in-Step-2.result c.from-in-Step-2.type_inv ∙ c.from-in-Step-2.ensures) ∙ sym (ap text_of c.in-Step.is))
 
 pub returns-in-Close : goal.returns-in-Close
-returns-in-Close c = put_as c.put_one-in-Close.ensures (ap (λ z. line_after (name_of 11) (z ∷ [])) (handed c.wide-in-Close.result c.wide-in-Close.type_inv ∙ c.wide-in-Close.ensures) ∙ sym (ap text_of c.in-Close.is))
+returns-in-Close c = put_as c.put_one-in-Close.ensures (ap (λ z. line_after (name_of 11) (z ∷ [])) (handed c.from-in-Close.result c.from-in-Close.type_inv ∙ c.from-in-Close.ensures) ∙ sym (ap text_of c.in-Close.is))
 
 pub returns-in-Sweep : goal.returns-in-Sweep
 returns-in-Sweep c = put_as c.put_none.ensures (sym (ap text_of c.in-Sweep.is))
