@@ -1,7 +1,7 @@
 -- Set-up on memory that is cut to the capacity: its result, and the tables afterwards.
 -- Assumes nothing.
 use Rattle.std.specs.Prelude.{Result, Ok, Err, Some, None, ⊤, Option}
-use mathlib.Core.Path.{◌≡◌, refl, sym, ap, ap₂, ◌∙◌, subst}
+use mathlib.Core.Path.{◌≡◌, refl, ap, ap₂, ◌∙◌, subst}
 use mathlib.Core.Bool.{Bool, true, false, cond}
 use mathlib.Core.List.{List, [], ◌∷◌, ◌++◌}
 use Prim.Native.Nat.{ℕ, ◌+◌, ◌*◌, ◌≤◌, min}

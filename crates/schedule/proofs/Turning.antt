@@ -1,13 +1,12 @@
 -- A turn: what it lays down, and that the next one may be made with less left.
 -- Assumes nothing.
-use Rattle.std.specs.Prelude.{Option, Some, None, Result, Ok, Err}
+use Rattle.std.specs.Prelude.{Result, Ok, Err}
 use mathlib.Core.Path.{◌≡◌, refl, sym, ap, ◌∙◌, subst}
-use mathlib.Core.Bool.{Bool, true, false, cond, true≢false}
+use mathlib.Core.Bool.{Bool, true, false}
 use mathlib.Core.List.{List, [], ◌++◌}
 use Prim.Native.Nat.{ℕ, ◌+◌, ◌-◌, ◌^◌, ◌≤◌, ◌<◌, min}
 use native.Mathlib.Omega.{arith}
-use lib.Dec.{eqb}
-use lib.ListN.{length, take, drop}
+use lib.ListN.{length, drop}
 use lib.Seq.{take_at}
 use lib.IntN.{ℤ}
 use Rattle.std.proofs.lemmas.Bool.Decides.{nat_tests}
@@ -27,19 +26,18 @@ use Rattle.batch.specs.declared.End.{End}
 use Rattle.batch.specs.Lists.{Input, Output, input_of, output_of, Follows, Ran}
 use Rattle.lines.specs.Lines.{most_for}
 use Rattle.lines.specs.Parts.{Printed}
-use Rattle.lines.specs.Files.{end_line, stop_line}
-use Rattle.lines.proofs.Parting.{Kept, ran_within, ran_full, ran_stop}
+use Rattle.lines.specs.Files.{stop_line}
+use Rattle.lines.proofs.Parting.{ran_within, ran_full, ran_stop}
 use Rattle.windows.specs.declared.Window.{Window}
-use Rattle.windows.specs.declared.FetchError.{FetchError}
-use Rattle.windows.specs.Windows.{count_of, held_in, place_of, behind, left_of, FetchedBy, Fetches}
-use Rattle.windows.proofs.Going.{held_length, behind_held, behind_place, behind_left, fetch_left}
+use Rattle.windows.specs.Windows.{count_of, held_in, place_of, behind}
+use Rattle.windows.proofs.Going.{held_length, behind_held, behind_place, behind_left}
 use Rattle.schedule.specs.declared.Session.{Session}
 use Rattle.schedule.specs.declared.Memory.{Memory}
 use Rattle.schedule.specs.declared.Buffers.{Buffers}
 use Rattle.schedule.specs.declared.Next.{Next}
 use Rattle.schedule.specs.declared.Turned.{Turned}
 use Rattle.schedule.specs.SetUps.{set_up_result, PreparedBy}
-use Rattle.schedule.specs.Turns.{input_size, last_most, Starts, Ready, Rooms, Laid, set_up_line, next_after, Begins, Only, HeaderTurn, HeaderBy, last_of, Within, next_of, taken, PartBy, Goes, TurnBy, holding, HeldThen, ReadOnBy}
+use Rattle.schedule.specs.Turns.{input_size, last_most, Starts, Ready, Rooms, Laid, set_up_line, next_after, Begins, Only, HeaderTurn, HeaderBy, last_of, Within, next_of, taken, PartBy, Goes, TurnBy}
 use Rattle.schedule.proofs.Preparing.{lengths_fit}
 
 -- ---- the text laid down

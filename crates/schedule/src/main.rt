@@ -273,12 +273,6 @@ fn part_turn(
         rows,
         buckets,
     } = memory;
-    let Buffers {
-        answers,
-        out_keys,
-        out_values,
-        out,
-    } = buffers;
     let part = lines::run_part(
         keys.split_at_mut(lengths.nodes).0,
         values.split_at_mut(lengths.nodes).0,
@@ -289,17 +283,17 @@ fn part_turn(
         &input[window.from..window.to],
         window.more,
         session.calls,
-        answers,
-        out_keys,
-        out_values,
-        out,
+        &mut buffers.answers,
+        &mut buffers.out_keys,
+        &mut buffers.out_values,
+        &mut buffers.out,
     );
     let batch = part.batch;
     session.begun = true;
     session.window = window.drop_front(batch.used);
     session.calls += batch.calls as u64;
     Turned {
-        length: put_last(out, part.length, window, batch.end),
+        length: put_last(&mut buffers.out, part.length, window, batch.end),
         next: next_of(window, batch.end),
     }
 }

@@ -24,6 +24,6 @@ returns c =
     let printed = rw (c.split_at_mut.ensures.front, c.split_at_mut-2.ensures.front, c.split_at_mut-3.ensures.front, c.split_at_mut-4.ensures.front) at run.ensures in
     rw (c.split_at_mut.ensures.back, c.split_at_mut-2.ensures.back, c.split_at_mut-3.ensures.back, c.split_at_mut-4.ensures.back, c.drop_front-session.ensures, c.next_of.ensures) (
       part_by (rooms x) printed c.put_last.ensures (c.put_last.auto.out ∙ run.auto.out) (run.auto.keys ∙ c.split_at_mut.ensures.front_len) (run.auto.values ∙ c.split_at_mut-2.ensures.front_len)
-      (run.auto.rows ∙ c.split_at_mut-3.ensures.front_len) (run.auto.buckets ∙ c.split_at_mut-4.ensures.front_len),
+          (run.auto.rows ∙ c.split_at_mut-3.ensures.front_len) (run.auto.buckets ∙ c.split_at_mut-4.ensures.front_len),
       (leaves x).goes refl refl refl refl,
     )
