@@ -1,6 +1,6 @@
 -- A call of a list behind others: its cells and its pairs in the whole buffers.
 -- Assumes nothing.
-use mathlib.Core.Path.{◌≡◌, sym, ap, ◌∙◌}
+use mathlib.Core.Path.{◌≡◌, ap, ◌∙◌}
 use mathlib.Core.List.{List, ◌++◌}
 use Prim.Native.Nat.{ℕ, ◌≤◌, ◌*◌}
 use native.Mathlib.Omega.{arith}
@@ -10,8 +10,7 @@ use Rattle.lists.specs.Buffers.{written}
 use Rattle.transactions.specs.declared.Call.{Call}
 use Rattle.model.specs.Plain.{Pair}
 use Rattle.tables.specs.Tables.{Tables}
-use Rattle.batch.specs.declared.Kind.{Kind}
-use Rattle.batch.specs.Turns.{room, pairs_of, keys_in, values_in, Turned, call_of}
+use Rattle.batch.specs.Turns.{room, pairs_of, keys_in, values_in, Turned}
 use Rattle.batch.specs.Lists.{Room, Laid}
 use Rattle.batch.proofs.Parts.{part_written}
 
@@ -32,8 +31,3 @@ turn_laid {t} {call = call} {calls = calls} {pairs = pairs} answers ks vs r k e 
       keys_out = rw u.keys_out (part_written ks pairs k (keys_in (pairs_of t call)) (omega arith) (omega (arith, r.for_keys)));
       values_out = rw u.values_out (part_written vs pairs k (values_in (pairs_of t call)) (omega arith) (omega (arith, r.for_values)));
     }
-
--- LAW: a call laid down as one of its kind
-pub kind_laid : {t t' : Tables} {call : Call} {k k' : Kind} {calls pairs : ℕ} {answers ks vs answers' ks' vs' : List ℤ} {count : ℕ} → call_of k ≡ call → k ≡ k'
-    → Laid t t' (call_of k') calls pairs answers ks vs answers' ks' vs' count → Laid t t' call calls pairs answers ks vs answers' ks' vs' count
-kind_laid e g l = rw (sym e, g) l

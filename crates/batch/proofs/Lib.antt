@@ -1,4 +1,3 @@
-pub mod Celling
 pub mod Parts
 pub mod Turning
 pub mod Pairing

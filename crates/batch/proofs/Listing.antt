@@ -1,7 +1,8 @@
 -- The calls of a list that were made so far, one more, and the end.
 -- Assumes nothing.
+use Rattle.std.specs.Prelude.{Result, Ok, Err}
 use mathlib.Core.Path.{◌≡◌, refl, sym, ap, ap₂, ◌∙◌}
-use mathlib.Core.Bool.{Bool, true, false, true≢false}
+use mathlib.Core.Bool.{Bool, true, true≢false}
 use mathlib.Core.List.{List, [], ◌∷◌, ◌++◌, map, append_assoc, append-nil}
 use mathlib.Core.Option.{Option}
 use mathlib.Core.Option as O
@@ -10,7 +11,6 @@ use native.Mathlib.Omega.{arith}
 use lib.ListN.{length, take, drop, length-append, length-map, length-drop}
 use lib.Seq.{take-add}
 use lib.IntN.{ℤ}
-use Rattle.lists.specs.Tests.{Says}
 use Rattle.lists.specs.Buffers.{written}
 use Rattle.lists.proofs.Answers.{yes! }
 use Rattle.lists.proofs.Writing.{written_none, written_length, written_append}
@@ -31,11 +31,9 @@ use Rattle.calls.specs.Outcome.{Called}
 use Rattle.calls.specs.Histories.{Calls, none, then, AsTheModel}
 use Rattle.calls.proofs.Histories.{as_the_model}
 use Rattle.batch.specs.declared.End.{End}
-use Rattle.batch.specs.declared.Then.{Then}
-use Rattle.batch.specs.declared.Then.TheVariants.{Make, Over}
 use Rattle.batch.specs.Cells.{cells_of}
 use Rattle.batch.specs.Turns.{room, meant, turn_tables, answer_of, pairs_of, keys_in, values_in}
-use Rattle.batch.specs.Lists.{Input, Output, bytes_in, tables_after, made_on, cells_in, pairs_in, Comes, Follows, Made, leaves, untouched, Laid, Listed, Ran}
+use Rattle.batch.specs.Lists.{Input, Output, bytes_in, tables_after, made_on, cells_in, pairs_in, Comes, Follows, Made, leaves, Laid, Listed}
 
 -- ---- one more call
 
@@ -95,7 +93,7 @@ calls_snoc h (then j js) k = then j (calls_snoc h js k)
 called_sound : {t t' : Tables} {c : C.Call} {a : C.Answer} → Sound t → Met t t' c a → Called t c a t'
 called_sound S m = record { tested = true; says = yes! S; refuses = λ e. absurd (true≢false e); met = λ e. m }
 
-made_snoc : (i : Input) (before cs : List Call) (c : Call) → Made i before cs → Follows i (before ++ cs) (Make c (length (bytes_of (numbers_of c)))) → Made i before (cs ++ (c ∷ []))
+made_snoc : (i : Input) (before cs : List Call) (c : Call) → Made i before cs → Follows i (before ++ cs) (Ok (c, length (bytes_of (numbers_of c)))) → Made i before (cs ++ (c ∷ []))
 made_snoc i before [] c m n = (rw (append-nil before) at n, tt)
 made_snoc i before (d ∷ cs) c m n = (m.0, made_snoc i (before ++ (d ∷ [])) cs c m.1 (rw (append_assoc before (d ∷ []) cs) n))
 
@@ -144,7 +142,7 @@ sofar_none i S =
     }
 
 -- what comes next, told by other names
-comes_as : (bytes : List ℕ) (more : Bool) {a a' k k' v v' used used' calls calls' pairs pairs' : ℕ} (next : Then) → a ≡ a' → k ≡ k' → v ≡ v' → used ≡ used' → calls ≡ calls' → pairs ≡ pairs'
+comes_as : (bytes : List ℕ) (more : Bool) {a a' k k' v v' used used' calls calls' pairs pairs' : ℕ} (next : Result (Call × ℕ) End) → a ≡ a' → k ≡ k' → v ≡ v' → used ≡ used' → calls ≡ calls' → pairs ≡ pairs'
     → Comes bytes more a k v used calls pairs next → Comes bytes more a' k' v' used' calls' pairs' next
 comes_as bytes more next p q r s t u c = rw (sym p, sym q, sym r, sym s, sym t, sym u) c
 
@@ -210,10 +208,10 @@ module _ {i : Input} {t : Tables} {out ks vs : List ℤ} {used calls pairs : ℕ
   pub values_length : length vs ≡ length i.values
   values_length = let c = values_are in let f = s.fit_values in ap length s.values ∙ written_length i.values 0 (values_in (pairs_in hs)) (omega arith)
 
-  follows : (next : Then) → Comes i.bytes i.more (length out) (length ks) (length vs) used calls pairs next → Follows i cs next
+  follows : (next : Result (Call × ℕ) End) → Comes i.bytes i.more (length out) (length ks) (length vs) used calls pairs next → Follows i cs next
   follows next c = comes_as i.bytes i.more next out_length keys_length values_length s.bytes_used s.calls_made s.pairs_out c
 
-  module _ {t' : Tables} {c : Call} {len count : ℕ} {out' ks' vs' : List ℤ} (n : Comes i.bytes i.more (length out) (length ks) (length vs) used calls pairs (Make c len)) (l : Laid t t' c calls pairs out ks vs out' ks' vs' count) where
+  module _ {t' : Tables} {c : Call} {len count : ℕ} {out' ks' vs' : List ℤ} (n : Comes i.bytes i.more (length out) (length ks) (length vs) used calls pairs (Ok (c, len))) (l : Laid t t' c calls pairs out ks vs out' ks' vs' count) where
     abbrev h : C.Call × C.Answer
     h = (meant room c, answer_of t c)
 
@@ -248,7 +246,7 @@ module _ {i : Input} {t : Tables} {out ks vs : List ℤ} {used calls pairs : ℕ
         let few = l.few in
         record {
           made = cs ++ (c ∷ []);
-          in_turn = made_snoc i [] cs c s.in_turn (follows (Make c (length (bytes_of (numbers_of c)))) (rw e at n));
+          in_turn = made_snoc i [] cs c s.in_turn (follows (Ok (c, length (bytes_of (numbers_of c)))) (rw e at n));
           sound = l.met.sound;
           met = rw grown (calls_snoc h s.met (called_sound s.sound l.met));
           tables = l.tables ∙ (ap (λ x. turn_tables x c) s.tables ∙ sym (tables_snoc i.tables cs c));
@@ -274,33 +272,21 @@ leaves_as i cs end a b c d e f g = rw (a, b, c, d, e, f, g)
 
 -- LAW: the end
 pub sofar_ends : {i : Input} {t : Tables} {out ks vs : List ℤ} {used calls pairs : ℕ} (s : Sofar i t out ks vs used calls pairs) (end : End)
-    → Comes i.bytes i.more (length out) (length ks) (length vs) used calls pairs (Over end)
+    → Comes i.bytes i.more (length out) (length ks) (length vs) used calls pairs (Err end)
     → Listed i (record { end = end; used = used; calls = calls; pairs = pairs; tables = t; answers = out; keys = ks; values = vs })
 sofar_ends {i} s end c =
     record {
       made = s.made;
       in_turn = s.in_turn;
-      ends = follows s (Over end) c;
+      ends = follows s (Err end) c;
       is = leaves_as i s.made end s.bytes_used s.calls_made s.pairs_out s.tables s.answers s.keys s.values;
       met = s.met;
     }
 
--- LAW: the call that comes ends within the bytes, and leaves fewer
-pub next_ends : {i : Input} {t : Tables} {out ks vs : List ℤ} {used calls pairs : ℕ} (s : Sofar i t out ks vs used calls pairs) {c : Call} {len : ℕ}
-    → Comes i.bytes i.more (length out) (length ks) (length vs) used calls pairs (Make c len) → used + len ≤ length i.bytes
-next_ends {i = i} {used = used} s n = let d = length-drop used i.bytes in omega (arith, s.inside, n.1.inside)
-
+-- LAW: the call that comes leaves fewer bytes
 pub next_less : {i : Input} {t : Tables} {out ks vs : List ℤ} {used calls pairs : ℕ} (s : Sofar i t out ks vs used calls pairs) {c : Call} {len : ℕ}
-    → Comes i.bytes i.more (length out) (length ks) (length vs) used calls pairs (Make c len) → length i.bytes - (used + len) < length i.bytes - used
+    → Comes i.bytes i.more (length out) (length ks) (length vs) used calls pairs (Ok (c, len)) → length i.bytes - (used + len) < length i.bytes - used
 next_less s {c} n = let e = read_length n.1 in let l = call_some c in omega (arith, n.0.left)
-
--- ---- on any tables
-
-pub ran_refused : (i : Input) {r : Bool} → Says r (Sound i.tables) → r ≡ false → Ran i (untouched i)
-ran_refused i {r} s e = record { tested = r; says = s; refuses = λ z. refl; lists = λ y. absurd (true≢false (sym y ∙ e)) }
-
-pub ran_lists : {i : Input} {o : Output} {r : Bool} → Says r (Sound i.tables) → r ≡ true → Listed i o → Ran i o
-ran_lists {r = r} s e l = record { tested = r; says = s; refuses = λ z. absurd (true≢false (sym e ∙ z)); lists = λ y. l }
 
 -- ---- what an outcome tells
 

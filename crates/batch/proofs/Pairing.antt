@@ -22,13 +22,12 @@ use Rattle.transactions.specs.declared.Call.TheVariants.{Fast, Step}
 use Rattle.model.specs.Plain.{Pair}
 use Rattle.model.specs.Calls as C
 use Rattle.model.specs.Model as M
-use Rattle.model.specs.Answers.{of_ranged, of_stepped}
+use Rattle.model.specs.Calls.{made_due}
+use Rattle.model.specs.Answers.{of_result, told_stepped, of_ranged, of_stepped}
 use Rattle.model.specs.declared.Stepped.{Stepped}
 use Rattle.tables.specs.declared.Ticket.{Ticket}
-use Rattle.tables.specs.declared.Coordinator.{Coordinator}
 use Rattle.tables.specs.Tables.{Tables, Sound, Met, ticket_at}
 use Rattle.soundness.specs.Tested.{lent}
-use Rattle.ranges.specs.declared.Step as S
 use Rattle.ranges.specs.Walk.{keys_of, values_of, walk_of, needed}
 use Rattle.ranges.specs.Fast.{fast_answer, fast_nodes, fast_of, given}
 use Rattle.ranges.specs.Step.{Case, refuse, at, stepping, step_nodes, step_end, room_of, SteppedBy}
@@ -36,20 +35,19 @@ use Rattle.ranges.proofs.WalkLaw.{pair_at, paired_written}
 use Rattle.ranges.proofs.FastLaw.{fast_meets}
 use Rattle.ranges.proofs.StepLaw.{step_meets}
 use Rattle.batch.specs.declared.Reply.{Reply}
-use Rattle.batch.specs.declared.Turn.{Turn}
 use Rattle.batch.specs.Cells.{cells_of, ranged_count, stepped_count}
-use Rattle.batch.specs.Turns.{room, meant, turn_tables, keys_in, values_in, Turned, turn_of, FastReply, StepTurn}
+use Rattle.batch.specs.Turns.{room, meant, turn_tables, keys_in, values_in, Turned, reply_of, FastReply, StepReply}
 use Rattle.batch.proofs.Parts.{front_written}
 use Rattle.batch.proofs.Turning.{turned_by, back, fits, told}
 
--- the cells do not tell the pairs
-ranged_cells_lem : (ks vs : List ℤ) (r : Result ℕ Refusal) → cells_of 8 (of_ranged [] [] r) ≡ cells_of 8 (of_ranged ks vs r)
-ranged_cells_lem ks vs (Ok n) = refl
-ranged_cells_lem ks vs (Err n) = refl
+-- LAW: the cells do not tell the pairs
+pub ranged_cells : (code : ℕ) (ks vs : List ℤ) (r : Result ℕ Refusal) → cells_of code (of_ranged ks vs r) ≡ cells_of code (of_result made_due r)
+ranged_cells code ks vs (Ok n) = refl
+ranged_cells code ks vs (Err n) = refl
 
-stepped_cells_lem : (ks vs : List ℤ) (r : Stepped) → cells_of 10 (of_stepped [] [] r) ≡ cells_of 10 (of_stepped ks vs r)
-stepped_cells_lem ks vs (Stepped.Pairs n finished) = refl
-stepped_cells_lem ks vs (Err n) = refl
+pub stepped_cells : (code : ℕ) (ks vs : List ℤ) (r : Result Stepped Refusal) → cells_of code (of_stepped ks vs r) ≡ cells_of code (of_result told_stepped r)
+stepped_cells code ks vs (Ok s) = refl
+stepped_cells code ks vs (Err n) = refl
 
 -- the pairs of nodes are their keys and their values
 keys_pairs : (keys : List ℕ) (values : List ℤ) (ns : List ℕ) → keys_in (map (pair_at keys values []) ns) ≡ keys_of keys ns
@@ -121,7 +119,7 @@ fast_turned t S l h f g q ks vs m n p =
     rw (q, p.is, by.answer)
     (turned_pairs {call = Fast l h} (given a ns) refl
     (subst (λ x. Met t t (C.fast l h x) (of_ranged (written ks 0 (keys_of t.keys (given a ns))) (written vs 0 (values_of t.values (given a ns))) a)) e (fast_meets t S l h (fits l f) (fits h g) ks vs))
-    (ranged_cells_lem _ _ a) out.pairs out.counted out.few by.keys_out by.values_out)
+    (sym (ranged_cells 8 _ _ a)) out.pairs out.counted out.few by.keys_out by.values_out)
 
 -- ---- a step
 
@@ -137,26 +135,26 @@ step_hands keys values rows ts places h ks vs (at j) =
     }
 
 -- LAW: a step to the front of a call's places, as the code makes it
-pub step_turn_lem : (keys : List ℕ) (values : List ℤ) (rows : List ℕ) (ts : List Ticket) (c : Coordinator) (v n : ℕ) (ks vs : List ℤ) → length ks ≡ room → length vs ≡ room → {k : ℕ} → k ≡ min n room
-    → {ks' vs' : List ℤ} {made : S.Step} → SteppedBy keys values rows ts c.ranges v (take k ks) (take k vs) ks' vs' made
-    → {cells : List ℤ} {count : ℕ} → cells ≡ cells_of 10 (of_stepped [] [] made.answer) → count ≡ stepped_count made.answer
-    → StepTurn keys values rows ts c v (min n room) ks vs (ks' ++ drop k ks) (vs' ++ drop k vs) (turn_of cells count made.tickets c)
-step_turn_lem keys values rows ts c v n ks vs m w {k} q by p d =
+pub step_lands : (keys : List ℕ) (values : List ℤ) (rows : List ℕ) (ts : List Ticket) (k v n : ℕ) (ks vs : List ℤ) → length ks ≡ room → length vs ≡ room → {m : ℕ} → m ≡ min n room
+    → {ts' : List Ticket} {ks' vs' : List ℤ} {answer : Result Stepped Refusal} → SteppedBy keys values rows ts ts' k v (take m ks) (take m vs) ks' vs' answer
+    → {r : Reply} → r ≡ reply_of (cells_of 10 (of_result told_stepped answer)) (stepped_count answer)
+    → StepReply keys values rows ts ts' k v (min n room) ks vs (ks' ++ drop m ks) (vs' ++ drop m vs) r
+step_lands keys values rows ts k v n ks vs p w {m} q by u =
     let places = min n room in
-    let case = stepping ts c.ranges v places in
-    let e : room_of (take k ks) (take k vs) ≡ places = omega (arith, length-take k ks, length-take k vs) in
-    let less : length (step_nodes case keys rows ts places) ≤ k = step_few keys rows ts places case (omega arith) in
-    let end = rw e at by.end in
+    let case = stepping ts k v places in
+    let e : room_of (take m ks) (take m vs) ≡ places = omega (arith, length-take m ks, length-take m vs) in
+    let less : length (step_nodes case keys rows ts places) ≤ m = step_few keys rows ts places case (omega arith) in
     record {
-      is = rw (p, d, end);
-      keys_out = rw (rw e at by.keys_out) (front_written ks k (keys_of keys (step_nodes case keys rows ts places)) (omega (arith, less, length-map (step_nodes case keys rows ts places) (λ j. key_of (get_or keys j 0)))) (omega arith));
-      values_out = rw (rw e at by.values_out) (front_written vs k (values_of values (step_nodes case keys rows ts places)) (omega (arith, less, length-map (step_nodes case keys rows ts places) (λ j. get_or values j (pos 0)))) (omega arith));
+      is = rw (u, rw e at by.answer);
+      tickets = rw e at by.tickets;
+      keys_out = rw (rw e at by.keys_out) (front_written ks m (keys_of keys (step_nodes case keys rows ts places)) (omega (arith, less, length-map (step_nodes case keys rows ts places) (λ j. key_of (get_or keys j 0)))) (omega arith));
+      values_out = rw (rw e at by.values_out) (front_written vs m (values_of values (step_nodes case keys rows ts places)) (omega (arith, less, length-map (step_nodes case keys rows ts places) (λ j. get_or values j (pos 0)))) (omega arith));
     }
 
 -- LAW: a step with as many places as it asks for, if there are that many
 pub step_turned : (t : Tables) → Sound t → (v : Version) (n : ℕ) {call : Call} → call ≡ Step v n → (ks vs : List ℤ) → length ks ≡ room → length vs ≡ room
-    → {ks' vs' : List ℤ} {r : Turn} → StepTurn t.keys t.values t.rows t.tickets t.coordinator v.0 (min n room) ks vs ks' vs' r
-    → Turned t (lent t.keys t.values t.rows t.buckets r.tickets r.coordinator) call ks vs ks' vs' r.cells r.pairs
+    → {tickets' : List Ticket} {ks' vs' : List ℤ} {r : Reply} → StepReply t.keys t.values t.rows t.tickets tickets' t.coordinator.ranges v.0 (min n room) ks vs ks' vs' r
+    → Turned t (lent t.keys t.values t.rows t.buckets tickets' t.coordinator) call ks vs ks' vs' r.cells r.pairs
 unfolding turn_tables
 step_turned t S v n q ks vs m w p =
     let places = min n room in
@@ -167,5 +165,5 @@ step_turned t S v n q ks vs m w p =
     let e : room_of ks₀ vs₀ ≡ places = omega (arith, length-take places ks, length-take places vs) in
     let out = step_hands t.keys t.values t.rows t.tickets places (omega arith) ks₀ vs₀ case in
     let met = rw e at (step_meets t S v.0 ks₀ vs₀) in
-    rw (q, p.is)
-    (turned_pairs {call = Step v n} ns refl met (stepped_cells_lem _ _ (step_end case t.keys t.rows t.tickets places).answer) out.pairs out.counted out.few p.keys_out p.values_out)
+    rw (q, p.is, p.tickets)
+    (turned_pairs {call = Step v n} ns refl met (sym (stepped_cells 10 _ _ (step_end case t.keys t.rows t.tickets places).answer)) out.pairs out.counted out.few p.keys_out p.values_out)

@@ -1,5 +1,7 @@
 -- A refusal changes nothing: a refused list leaves all that is lent, and a refused call within a list leaves the tables and both pair buffers.
 -- Assumes nothing.
+use Rattle.std.specs.Prelude.{Err}
+use Rattle.model.specs.declared.Refusal.{Refusal}
 use mathlib.Core.Path.{◌≡◌, refl, sym, ap, ◌∙◌, subst}
 use mathlib.Core.Bool.{Bool, true, false, true≢false}
 use mathlib.Core.List.{List, [], ◌∷◌, ◌++◌, map, append-nil}
@@ -19,6 +21,7 @@ use Rattle.transactions.proofs.Calling.{call_typed}
 use Rattle.model.specs.Calls as C
 use Rattle.model.specs.Model as M
 use Rattle.model.specs.Answers.{of_stepped}
+use Rattle.model.specs.declared.Handed.TheVariants.{Freed, Held}
 use Rattle.tables.specs.Tables.{Tables, Sound, Met, view}
 use Rattle.changes.specs.Insert.{insert_tables}
 use Rattle.changes.specs.Remove.{remove_tables}
@@ -43,10 +46,9 @@ use Rattle.calls.specs.Entries as E
 use Rattle.calls.proofs.Unchanged as U
 use Rattle.batch.specs.declared.End.{End}
 use Rattle.batch.specs.declared.End.TheVariants.{Refused}
-use Rattle.batch.specs.declared.Then.TheVariants.{Over}
 use Rattle.batch.specs.Turns.{room, meant, turn_tables, answer_of, pairs_of, keys_in, values_in}
 use Rattle.batch.specs.Lists.{Input, Output, tables_after, made_on, pairs_in, Follows, Made, leaves, untouched, Laid, Unchanged, Listed, Ran}
-use Rattle.batch.proofs.Refusals.{inserted_refused, removed_refused, handed_refused, opened_refused, stepped_refused, closed_refused, swept_refused}
+use Rattle.batch.proofs.Refusals.{refused_only}
 use Rattle.batch.proofs.Listing.{tables_snoc, pairs_snoc, made_more}
 
 -- ---- one call on sound tables
@@ -94,7 +96,7 @@ step_kept t S v n =
       answer = of_stepped ks' vs' (stepping_of t v k).answer;
       met = m;
       same = λ e. ap (λ (x : E.Lent). x.tables)
-          (stepped_refused ks' vs' (λ r. E.Steps t ks ks t' ks' vs' v r → E.with t' ks' vs' ≡ E.with t ks ks) (U.step_unchanged t ks ks t' ks' vs' v) (stepping_of t v k).answer e (outcome S m));
+          (refused_only _ (λ x. refl) (λ r. E.Steps t ks ks t' ks' vs' v r → E.with t' ks' vs' ≡ E.with t ks ks) (U.step_unchanged t ks ks t' ks' vs' v) (stepping_of t v k).answer e (outcome S m));
     })
 
 kept : (t : Tables) → Sound t → (c : Call) → Typed c → Kept t (turn_tables t c) (meant room c)
@@ -102,13 +104,13 @@ unfolding turn_tables
 kept t S (Lookup k) f = reads (lookup_meets t S k f)
 kept t S (Insert k v coin) f =
     let t' = insert_tables t k v coin in
-    changes S (insert_meets t S k v coin f.0) (inserted_refused (λ r. E.Inserts t t' k v coin r → t' ≡ t) (U.insert_unchanged t t' k v coin))
+    changes S (insert_meets t S k v coin f.0) (refused_only _ (λ x. refl) (λ r. E.Inserts t t' k v coin r → t' ≡ t) (U.insert_unchanged t t' k v coin))
 kept t S (Remove k) f =
     let t' = remove_tables t k in
-    changes S (remove_meets t S k f) (removed_refused (λ r. E.Removes t t' k r → t' ≡ t) (U.remove_unchanged t t' k))
+    changes S (remove_meets t S k f) (refused_only _ (λ x. refl) (λ r. E.Removes t t' k r → t' ≡ t) (U.remove_unchanged t t' k))
 kept t S (HandOver n) f =
     let t' = handed_tables (handing_of t n.0) t n.0 in
-    changes S (hand_meets t S n.0) (handed_refused (λ r. E.HandsOver t t' n.0 r → t' ≡ t) (U.hand_over_unchanged t t' n.0))
+    changes S (hand_meets t S n.0) (refused_only _ (elim [ Freed ↦ refl | Held ↦ refl ]) (λ r. E.HandsOver t t' n.0 r → t' ≡ t) (U.hand_over_unchanged t t' n.0))
 kept t S (Ceil k) f = reads (nearest_meets t S k f 0 (omega arith) true)
 kept t S (Floor k) f = reads (nearest_meets t S k f 1 (omega arith) true)
 kept t S (Succ k) f = reads (nearest_meets t S k f 0 (omega arith) false)
@@ -116,14 +118,14 @@ kept t S (Pred k) f = reads (nearest_meets t S k f 1 (omega arith) false)
 kept t S (Fast l h) f = fast_kept t S l h f
 kept t S (Open l h) f =
     let t' = opened_tables t l h in
-    changes S (open_meets t S l h f.0 f.1) (opened_refused (λ r. E.Opens t t' l h r → t' ≡ t) (U.open_unchanged t t' l h))
+    changes S (open_meets t S l h f.0 f.1) (refused_only _ (λ x. refl) (λ r. E.Opens t t' l h r → t' ≡ t) (U.open_unchanged t t' l h))
 kept t S (Step v n) f = step_kept t S v.0 (min n room)
 kept t S (Close v) f =
     let t' = closed_tables t v.0 in
-    changes S (close_meets t S v.0) (closed_refused (λ r. E.Closes t t' v.0 r → t' ≡ t) (U.close_unchanged t t' v.0))
+    changes S (close_meets t S v.0) (refused_only _ (λ x. refl) (λ r. E.Closes t t' v.0 r → t' ≡ t) (U.close_unchanged t t' v.0))
 kept t S Sweep f =
     let t' = swept_tables t.coordinator.due t in
-    changes S (sweep_meets t S) (swept_refused (λ r. E.Sweeps t t' r → t' ≡ t) (U.sweep_unchanged t t'))
+    changes S (sweep_meets t S) (refused_only _ (λ x. refl) (λ r. E.Sweeps t t' r → t' ≡ t) (U.sweep_unchanged t t'))
 kept t S Tally f = reads (tally_meets t S)
 
 module _ (t : Tables) (S : Sound t) (c : Call) (f : Typed c) where
@@ -191,9 +193,9 @@ refused_call {i} S l before c behind w e end =
     }
 
 -- LAW: a refused list leaves all that is lent, and its number is 1
-pub ran_unchanged : {i : Input} {o : Output} (n : ℕ) → Ran i o → o.end ≡ Refused n → o ≡ untouched i
+pub ran_unchanged : {i : Input} {o : Output} (n : Refusal) → Ran i o → o.end ≡ Refused n → o ≡ untouched i
 ran_unchanged {i} {o} n r e = go r.tested refl
   where
     go : (b : Bool) → r.tested ≡ b → o ≡ untouched i
     go false f = r.refuses f
-    go true f = absurd (subst (λ (x : End). Follows i (r.lists f).made (Over x)) e (r.lists f).ends)
+    go true f = absurd (subst (λ (x : End). Follows i (r.lists f).made (Err x)) e (r.lists f).ends)

@@ -10,11 +10,12 @@ use Rattle.transactions.specs.declared.Call.{Call}
 use Rattle.transactions.specs.declared.Call.TheVariants.{Lookup, Insert, Remove, HandOver, Ceil, Floor, Succ, Pred, Fast, Open, Step, Close, Sweep, Tally}
 use Rattle.model.specs.Plain.{Pair}
 use Rattle.model.specs.Calls as C
+use Rattle.model.specs.Calls.{made_due}
 use Rattle.model.specs.Model as M
 use Rattle.tables.specs.Tables.{Tables, Met, view}
-use Rattle.model.specs.Answers.{of_handed, of_ranged, of_opened, of_stepped, of_closed, of_swept}
-use Rattle.returns.specs.HandOver.{handing_of, handed_tables, handed_rows, handed_tickets}
-use Rattle.returns.specs.Sweep.{sweeping, swept_rows, swept_due, with_due, swept_tables}
+use Rattle.model.specs.Answers.{of_result, told_stepped}
+use Rattle.returns.specs.HandOver.{handing_of, handed_tables}
+use Rattle.returns.specs.Sweep.{swept_tables}
 use Rattle.changes.specs.Insert.{insert_tables}
 use Rattle.changes.specs.Remove.{remove_tables}
 use Rattle.ranges.specs.Fast.{RangedBy}
@@ -113,13 +114,13 @@ reply_of cells pairs = record { cells = cells; pairs = pairs }
 pub record FastReply (keys : List ℕ) (values : List ℤ) (rows : List ℕ) (counter : ℕ) (low high : ℤ) (ks vs ks' vs' : List ℤ) (r : Reply) : Type 0 where
   pub answer : Result ℕ Refusal
   pub by : RangedBy keys values rows counter low high ks vs ks' vs' answer
-  pub is : r ≡ reply_of (cells_of 8 (of_ranged [] [] answer)) (ranged_count answer)
+  pub is : r ≡ reply_of (cells_of 8 (of_result made_due answer)) (ranged_count answer)
 
 -- a step with so many places, at the front of both buffers: k ranges are open
 pub record StepReply (keys : List ℕ) (values : List ℤ) (rows : List ℕ) (ts ts' : List Ticket) (k v places : ℕ) (ks vs ks' vs' : List ℤ) (r : Reply) : Type 0 where
   pub is :
       r
-      ≡ reply_of (cells_of 10 (of_stepped [] [] (step_end (stepping ts k v places) keys rows ts places).answer))
+      ≡ reply_of (cells_of 10 (of_result told_stepped (step_end (stepping ts k v places) keys rows ts places).answer))
       (stepped_count (step_end (stepping ts k v places) keys rows ts places).answer)
   pub tickets : ts' ≡ (step_end (stepping ts k v places) keys rows ts places).tickets
   pub keys_out : ks' ≡ written ks 0 (keys_of keys (step_nodes (stepping ts k v places) keys rows ts places))

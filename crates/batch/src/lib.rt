@@ -19,7 +19,7 @@ ghost use Rattle.batch.specs.Turns.{room, Turned, reply_of, FastReply, StepReply
 ghost use Rattle.batch.specs.Lists.{Room, Comes, Laid, Listed, Ran, input_of, output_of, ended_by};
 
 use model::{Handed, Refusal, Stepped, Swept, Tallied};
-use rows::Direction;
+use rows::Direction::{After, Before};
 use sizes::{Node, Version};
 use tables::{Coordinator, Ticket};
 use transactions::{Call, Halt};
@@ -106,7 +106,12 @@ impl Told for Tallied {
     ghost told = { λ (t : Tallied). counts t.present t.held t.free };
 
     fn cells(self, code: u32) -> [i64; 5] {
-        accepted(code, i64::from(self.present), i64::from(self.held), i64::from(self.free))
+        accepted(
+            code,
+            i64::from(self.present),
+            i64::from(self.held),
+            i64::from(self.free),
+        )
     }
 }
 
@@ -229,10 +234,10 @@ fn make_call(
         ),
         Call::Remove(key) => plain(2, changes::remove(keys, rows, buckets, counter, key)),
         Call::HandOver(node) => plain(3, returns::hand_over(rows, cap, tickets, ranges, node)),
-        Call::Ceil(key) => plain(4, finds::nearest(keys, rows, buckets, key, Direction::After, true)),
-        Call::Floor(key) => plain(5, finds::nearest(keys, rows, buckets, key, Direction::Before, true)),
-        Call::Succ(key) => plain(6, finds::nearest(keys, rows, buckets, key, Direction::After, false)),
-        Call::Pred(key) => plain(7, finds::nearest(keys, rows, buckets, key, Direction::Before, false)),
+        Call::Ceil(key) => plain(4, finds::nearest(keys, rows, buckets, key, After, true)),
+        Call::Floor(key) => plain(5, finds::nearest(keys, rows, buckets, key, Before, true)),
+        Call::Succ(key) => plain(6, finds::nearest(keys, rows, buckets, key, After, false)),
+        Call::Pred(key) => plain(7, finds::nearest(keys, rows, buckets, key, Before, false)),
         Call::Fast(low, high) => fast_reply(
             keys, values, rows, buckets, counter, low, high, out_keys, out_values,
         ),
@@ -388,7 +393,6 @@ fn run_calls(
             pairs,
         ) {
             Ok((call, length)) => {
-                let behind = pairs;
                 pairs += take_call(
                     keys,
                     values,
@@ -398,7 +402,7 @@ fn run_calls(
                     coordinator,
                     call,
                     calls,
-                    behind,
+                    pairs,
                     answers,
                     out_keys,
                     out_values,

@@ -87,6 +87,7 @@ pub fn show_word(buffer: &mut [u8], line: &[u8], number: usize) -> Result<usize,
 }
 
 // The header or call with this code and these numbers.
+#[tactic(auto, using(transactions::proofs::Operating::signed), unfolding(crate::specs::Forms::kinds))]
 fn line_of(code: usize, a: u64, b: u64, c: u64) -> Line
     requires { (code < 15) × Ranged (get_or kinds code []) (counted code (a ∷ b ∷ c ∷ [])) }
     ensures { sense_of (Ok result) ≡ Forms·numbers (code ∷ counted code (a ∷ b ∷ c ∷ [])) }

@@ -53,6 +53,7 @@ fn put_insert(out: &mut [u8], key: i64, value: i64, coin: u64) -> usize
 }
 
 // Puts the line of a call.
+#[tactic(auto, using(crate::proofs::Texting::handed))]
 pub fn put_call(out: &mut [u8], call: Call) -> usize
     requires { Room out.old 0 longest_text }
     ensures { Put out.old 0 longest_text (text_of call) out.new result }

@@ -10,6 +10,9 @@ pub struct Span {
     pub end: usize,
 }
 
+// What begins a remark.
+const REMARK: u8 = b'#';
+
 // A space, a tab, a line feed or a carriage return.
 fn is_blank(byte: u8) -> bool
     ensures { result ≡ blank byte }
@@ -36,7 +39,7 @@ pub fn next_word(line: &[u8], at: usize) -> Span
     ensures { NextWord line.now at result }
 {
     let start = run_end(line, at, true);
-    if start < line.len() && line[start] == b'#' {
+    if start < line.len() && line[start] == REMARK {
         return Span { start, end: start };
     }
     let end = run_end(line, start, false);

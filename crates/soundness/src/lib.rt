@@ -70,10 +70,9 @@ fn order_ok(keys: &[u64], rows: &[u32], cap: u32, n: u32, next: u32) -> bool
     let key = keys[n as usize];
     let later = keys[next as usize];
     if cell(rows, n, Column::Place) == IS_PRESENT {
-        key < later
-    } else {
-        key <= later
+        return key < later;
     }
+    key <= later
 }
 
 // Whether the nodes of the lowest level are in use, in time and in order, are all that are not free, and include as many retired ones as the ring. One walk.

@@ -1,5 +1,5 @@
 -- `batch::fast_reply` meets its contract.
-use mathlib.Core.Path.{refl}
+use borrow.Author.Rules.{rules}
 use mir.Syntax.{w64}
 use mir.ValLaws.{to_z-of_z}
 use Rattle.batch.proofs.fast_reply.Goals as goal
@@ -9,5 +9,5 @@ returns c =
     record {
       answer = c.fast_range-answer.result;
       by = rw (to_z-of_z w64 c.args.low c.ranges.low, to_z-of_z w64 c.args.high c.ranges.high) at c.fast_range-answer.ensures;
-      is = rw (c.ranged_cells.ensures, c.ranged_count.ensures) refl;
+      is = search rules;
     }
