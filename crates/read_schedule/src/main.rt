@@ -2,229 +2,119 @@
 // on standard error with their offset, and ends the program; what stands before them has been written.
 #![tactic(auto)]
 
-ghost use Rattle.std.specs.Prelude.{◌≡◌, true, ◌≤◌, length};
-ghost use Rattle.windows.specs.Windows.{Held, left_of};
+ghost use Rattle.std.specs.Prelude.{◌≡◌, true, ◌≤◌, length, IfOk, MatchOption};
+ghost use Rattle.windows.specs.Windows.{Held, Fetches, left_of};
 
-use groups::Wrote;
-use std::io;
+use failures::Stop;
 use std::process::ExitCode;
-use transactions::{Call, Header, HeaderReading, Reading};
-use windows::{Fetched, Window};
+use transactions::{Call, Halt, Header};
+use windows::Window;
 
+// How many bytes of the file are held at a time.
 const ROOM: usize = 4096;
 
-// How far the program is: what is held of the input, whether the header was read, whether to go on, and whether the reader of the output left.
-#[derive(Clone, Copy)]
-struct Progress {
-    pub window: Window,
-    pub header: bool,
-    pub going: bool,
-    pub left: bool,
-}
-
-// The place up to which the bytes held were taken, whether to go on, and whether the reader of the output left.
-#[derive(Clone, Copy)]
-struct Taken {
-    pub at: usize,
-    pub going: bool,
-    pub left: bool,
-}
-
-// What came of a write: whether to go on, and whether the reader of the output left.
-#[derive(Clone, Copy)]
-struct Shown {
-    pub going: bool,
-    pub left: bool,
-}
-
-fn say(rt: &HostRuntime, text: &[u8]) {
-    let _ = rt.stderr().write_all(text);
-}
-
 // Tells where the bytes stop making sense: at a place behind the first byte held.
-fn refuse(rt: &HostRuntime, window: Window, place: usize) {
-    let offset = windows::offset_of(window, place);
-    say(rt, b"byte ");
-    let _ = eprint!(rt; "{offset}");
-    say(rt, b": not a schedule file from here\n");
+fn refuse(rt: &HostRuntime, window: Window, place: usize) -> Stop {
+    let offset = window.offset_of(place);
+    let _ = eprintln!(rt; "byte {offset}: not a schedule file from here");
+    Stop::Told
 }
 
-// Stops where a write failed: it tells why, but says nothing to a reader that has left.
-fn unwritten(rt: &HostRuntime, error: io::Error) -> Shown {
-    let left = failures::reader_left(rt, error);
-    Shown { going: false, left }
-}
-
-// Writes the front of a buffer, as much as was put there; where nothing was, the error is that of a system where no call failed.
-fn write_front(rt: &HostRuntime, buffer: &[u8], wrote: Wrote) -> Shown {
-    if let Wrote::Length(n) = wrote {
-        if n <= buffer.len() {
-            return match rt.stdout().write_all(&buffer[..n]) {
-                Ok(()) => Shown {
-                    going: true,
-                    left: false,
-                },
-                Err(error) => unwritten(rt, error),
-            };
-        }
-    }
-    unwritten(rt, io::Error::from_raw_os_error(0))
-}
-
-fn show_call(rt: &HostRuntime, call: Call) -> Shown {
+// Writes the text of a header.
+fn show_header(rt: &HostRuntime, header: Header) -> Result<(), Stop> {
     let mut text = [0u8; 80];
-    let wrote = notation::write_call(&mut text, call);
-    write_front(rt, &text, wrote)
+    let length = notation::write_header(&mut text, header).ok();
+    failures::write_front(rt, &text, length)
 }
 
-fn show_header(rt: &HostRuntime, header: Header) -> Shown {
+// Writes the text of a call.
+fn show_call(rt: &HostRuntime, call: Call) -> Result<(), Stop> {
     let mut text = [0u8; 80];
-    let wrote = notation::write_header(&mut text, header);
-    write_front(rt, &text, wrote)
+    let length = notation::write_call(&mut text, call).ok();
+    failures::write_front(rt, &text, length)
 }
 
-// Takes the header from the bytes held, if it is there.
-fn take_header(rt: &HostRuntime, bytes: &[u8], window: Window) -> Taken
-    ensures { result.at ≤ length bytes.now }
+// Reads on behind what is held; where that fails, it tells why.
+fn fetch(rt: &HostRuntime, buffer: &mut [u8], window: Window) -> Result<Window, Stop>
+    ensures { IfOk result (λ next. Fetches window buffer.old next buffer.new) }
 {
-    let reading = transactions::read_header(bytes, window.more);
-    match reading {
-        HeaderReading::Header(header, len) => {
-            let Shown { going, left } = show_header(rt, header);
-            Taken {
-                at: len,
-                going,
-                left,
-            }
+    windows::fetch(&mut rt.stdin(), buffer, window).map_err(|error| {
+        let _ = eprintln!(rt; "read_schedule: {error}");
+        Stop::Told
+    })
+}
+
+// Takes the header from the bytes held: its length, and nothing where more is to be read first.
+fn take_header(rt: &HostRuntime, bytes: &[u8], window: Window) -> Result<Option<usize>, Stop>
+    ensures { IfOk result (λ taken. MatchOption taken (window.more ≡ true) (λ at. at ≤ length bytes.now)) }
+{
+    match transactions::read_header(bytes, window.more) {
+        Ok((header, length)) => {
+            show_header(rt, header)?;
+            Ok(Some(length))
         }
-        HeaderReading::Stop(place) => {
-            refuse(rt, window, place);
-            Taken {
-                at: 0,
-                going: false,
-                left: false,
-            }
-        }
-        HeaderReading::More => Taken {
-            at: 0,
-            going: true,
-            left: false,
-        },
+        Err(Halt::Stop(place)) => Err(refuse(rt, window, place)),
+        Err(Halt::More) => Ok(None),
     }
 }
 
-// Takes the calls from a place of the bytes held on.
-fn take_calls(rt: &HostRuntime, bytes: &[u8], from: usize, window: Window) -> Taken
-    requires { from ≤ length bytes.now }
-    ensures { result.at ≤ length bytes.now }
+// Reads until the header is there, and takes it: what is held behind it.
+fn begin(rt: &HostRuntime, buffer: &mut [u8]) -> Result<Window, Stop>
+    ensures { IfOk result (λ rest. Held rest (length buffer.new)) }
 {
-    let mut at = from;
+    let mut window = Window::unread();
+    loop {
+        window = fetch(rt, buffer, window)?;
+        let bytes = &buffer[window.from..window.to];
+        if let Some(length) = take_header(rt, bytes, window)? {
+            return Ok(window.drop_front(length));
+        }
+    }
+}
+
+// Takes the calls that are whole in the bytes held: the place behind them.
+fn take_calls(rt: &HostRuntime, bytes: &[u8], window: Window) -> Result<usize, Stop>
+    ensures { IfOk result (λ at. at ≤ length bytes.now) }
+{
+    let mut at = 0;
     while at < bytes.len() {
-        let reading = transactions::read_call(bytes, at, window.more);
-        match reading {
-            Reading::Call(call, len) => {
-                let Shown { going, left } = show_call(rt, call);
-                if !going {
-                    return Taken { at, going, left };
-                }
-                at += len;
+        match transactions::read_call(bytes, at, window.more) {
+            Ok((call, length)) => {
+                show_call(rt, call)?;
+                at += length;
             }
-            Reading::Stop(place) => {
-                refuse(rt, window, place);
-                return Taken {
-                    at,
-                    going: false,
-                    left: false,
-                };
-            }
-            Reading::More => {
-                return Taken {
-                    at,
-                    going: true,
-                    left: false,
-                };
-            }
+            Err(Halt::Stop(place)) => return Err(refuse(rt, window, place)),
+            Err(Halt::More) => break,
         }
     }
-    Taken {
-        at,
-        going: true,
-        left: false,
-    }
+    Ok(at)
 }
 
-// Takes the header, if it was not yet read, and the calls behind it.
-fn take_bytes(rt: &HostRuntime, bytes: &[u8], window: Window, header: bool) -> Taken
-    ensures { result.at ≤ length bytes.now }
-{
-    if header {
-        return take_calls(rt, bytes, 0, window);
-    }
-    let taken = take_header(rt, bytes, window);
-    if !taken.going {
-        return taken;
-    }
-    if taken.at == 0 {
-        return taken;
-    }
-    take_calls(rt, bytes, taken.at, window)
-}
-
-// Whether the header was read once so many more bytes were taken, of which it would have been the first.
-fn header_read(header: bool, at: usize) -> bool {
-    if 0 < at {
-        return true;
-    }
-    header
-}
-
-// Takes what is held. Behind the end of the input nothing follows.
-fn take_held(rt: &HostRuntime, buffer: &[u8], window: Window, header: bool) -> Progress
+// Takes the calls that are held: what is held behind them.
+fn take_held(rt: &HostRuntime, buffer: &[u8], window: Window) -> Result<Window, Stop>
     requires { Held window (length buffer.now) }
-    ensures { Held result.window (length buffer.now) × (left_of result.window ≤ left_of window) × (result.going ≡ true → result.window.more ≡ true) }
+    ensures { IfOk result (λ rest. Held rest (length buffer.now) × (left_of rest ≤ left_of window) × (rest.more ≡ window.more)) }
 {
-    let from = window.from;
-    let to = window.to;
-    let taken = take_bytes(rt, &buffer[from..to], window, header);
-    let rest = windows::drop_front(window, taken.at);
-    let read = header_read(header, taken.at);
-    if window.more {
-        return Progress {
-            window: rest,
-            header: read,
-            going: taken.going,
-            left: taken.left,
-        };
-    }
-    Progress {
-        window: rest,
-        header: read,
-        going: false,
-        left: taken.left,
+    let at = take_calls(rt, &buffer[window.from..window.to], window)?;
+    Ok(window.drop_front(at))
+}
+
+// Shows a whole schedule file.
+fn show_file(rt: &HostRuntime) -> Result<(), Stop> {
+    let mut buffer = [0u8; ROOM];
+    let mut window = begin(rt, &mut buffer)?;
+    loop {
+        window = take_held(rt, &buffer, window)?;
+        if !window.more {
+            return Ok(());
+        }
+        window = fetch(rt, &mut buffer, window)?;
     }
 }
 
 fn main(rt: HostRuntime) -> ExitCode {
-    let mut buffer = [0u8; ROOM];
-    let mut progress = Progress {
-        window: windows::unread_window(),
-        header: false,
-        going: true,
-        left: false,
-    };
-    while progress.going {
-        let Fetched::Held(window) = windows::fetch(
-            &rt,
-            b"read_schedule",
-            &mut buffer,
-            progress.window,
-        ) else {
-            return ExitCode::SUCCESS;
-        };
-        progress = take_held(&rt, &buffer, window, progress.header);
+    match show_file(&rt) {
+        Ok(()) => ExitCode::SUCCESS,
+        Err(stop) => ExitCode::from(stop),
     }
-    if progress.left {
-        return ExitCode::from(failures::READER_LEFT);
-    }
-    ExitCode::SUCCESS
 }
