@@ -100,10 +100,22 @@ next_read w end f e = grind arith
 pub bytes_held : {s : Session} → Ready s → (input : List ℕ) → length input ≡ input_size → length (held_in s.window input) ≡ count_of s.window
 bytes_held {s} y input l = held_length s.window input (rw l y.held)
 
-module _ {m m' : Memory} {s s' : Session} {out : List ℕ} {r : Turned} (y : Ready s) where
-  -- LAW: behind the header less is left
-  pub begins_goes : (input : List ℕ) {h : Header} {len : ℕ} → length input ≡ input_size → WholeHeader (held_in s.window input) h len → Begins m s m' s' out r h len → Goes s s' r
-  begins_goes input {h} {len} l w b =
+-- LAW: before the first turn it is ready
+pub starts_ready : {s : Session} → Starts s → Ready s
+starts_ready a =
+    record {
+      held = rw a.window (record { order = omega arith; inside = omega arith; counted = omega arith; known = omega arith });
+      few = rw a.calls (omega arith);
+      nodes = omega (arith, a.nodes);
+      rows = omega (arith, a.rows);
+      buckets = omega (arith, a.buckets);
+    }
+
+-- LAW: what the turn at the header comes to, by what reading it answers
+module _ (m : Memory) {s : Session} (y : Ready s) (input : List ℕ) (l : length input ≡ input_size) where
+  -- behind the header less is left
+  begins_goes : {m' : Memory} {s' : Session} {out : List ℕ} {r : Turned} {h : Header} {len : ℕ} → WholeHeader (held_in s.window input) h len → Begins m s m' s' out r h len → Goes s s' r
+  begins_goes {h = h} {len = len} w b =
       let n = bytes_held y input l in
       let i : len ≤ count_of s.window = omega (arith, w.inside) in
       let f = lengths_fit (size_of h.capacity) in
@@ -120,31 +132,9 @@ module _ {m m' : Memory} {s s' : Session} {out : List ℕ} {r : Turned} (y : Rea
         read = λ e. absurd (after_read (set_up_result h.capacity) (sym b.next ∙ e));
       }
 
-  -- LAW: where nothing but a line comes, the session stays, and where a read comes first more may follow
-  pub only_goes : {text : List ℕ} {next : Next} → (next ≡ Next.On → ⊥) → (next ≡ Next.Read → s.window.more ≡ true) → Only text next m s m' s' out r → Goes s s' r
-  only_goes f g o =
-      record {
-        ready = rw o.session y;
-        on = λ e. absurd (f (sym o.next ∙ e));
-        read = λ e. rw o.session (g (sym o.next ∙ e), omega arith);
-      }
-
--- LAW: before the first turn it is ready
-pub starts_ready : {s : Session} → Starts s → Ready s
-starts_ready a =
-    record {
-      held = rw a.window (record { order = omega arith; inside = omega arith; counted = omega arith; known = omega arith });
-      few = rw a.calls (omega arith);
-      nodes = omega (arith, a.nodes);
-      rows = omega (arith, a.rows);
-      buckets = omega (arith, a.buckets);
-    }
-
--- LAW: what the turn at the header comes to, by what reading it answers
-module _ (m : Memory) {s : Session} (y : Ready s) (input : List ℕ) (l : length input ≡ input_size) where
   pub header_begins : {m' : Memory} {s' : Session} {out : List ℕ} {r : Turned} {h : Header} {len : ℕ} → HeaderRead (held_in s.window input) s.window.more (Ok (h, len)) → Begins m s m' s' out r h len
       → HeaderBy m s input m' s' out r × Goes s s' r
-  header_begins {h = h} {len = len} w b = (record { reading = Ok (h, len); reads = w; comes = b }, begins_goes y input l w b)
+  header_begins {h = h} {len = len} w b = (record { reading = Ok (h, len); reads = w; comes = b }, begins_goes w b)
 
   pub header_stops : {out : List ℕ} {len k : ℕ} (place : ℕ) → HeaderRead (held_in s.window input) s.window.more (Err (Halt.Stop place))
       → k ≡ min (place_of s.window + place) (2 ^ 64 - 1) → Laid (stop_line k) out len
@@ -155,13 +145,7 @@ module _ (m : Memory) {s : Session} (y : Ready s) (input : List ℕ) (l : length
       let z : k ≡ place_of s.window + place = omega (arith, w.is, bytes_held y input l, d.order, d.counted, d.known) in
       let o : Only (stop_line (place_of s.window + place)) Next.Over m s m s out (record { length = len; next = Next.Over }) =
       record { line = subst (λ n. Laid (stop_line n) out len) z t; next = refl; session = refl; memory = refl } in
-      (record { reading = Err (Halt.Stop place); reads = w; comes = o }, only_goes y (λ e. cc) (λ e. cc) o)
-
-  pub header_waits : {out : List ℕ} → HeaderRead (held_in s.window input) s.window.more (Err Halt.More)
-      → HeaderBy m s input m s out (record { length = 0; next = Next.Read }) × Goes s s (record { length = 0; next = Next.Read })
-  header_waits {out} w =
-      let o : Only [] Next.Read m s m s out (record { length = 0; next = Next.Read }) = record { line = record { inside = omega arith; is = refl }; next = refl; session = refl; memory = refl } in
-      (record { reading = Err Halt.More; reads = w; comes = o }, only_goes y (λ e. cc) (λ e. w.follows) o)
+      (record { reading = Err (Halt.Stop place); reads = w; comes = o }, record { ready = y; on = λ e. cc; read = λ e. cc })
 
 -- ---- a part
 
