@@ -1,5 +1,6 @@
 -- What is printed of a file is determined by its bytes.
 -- Assumes nothing.
+use Rattle.std.specs.Prelude.{Ok, Err}
 use mathlib.Core.Path.{◌≡◌, refl, sym, ap, ap₂, ◌∙◌, subst}
 use mathlib.Core.Bool.{false}
 use mathlib.Core.List.{List, [], ◌∷◌, ◌++◌, map, append_assoc}
@@ -11,8 +12,7 @@ use lib.Seq.{take-append_seam, drop-append_seam}
 use Rattle.lists.specs.Holds.{All}
 use Rattle.transactions.specs.declared.Call.{Call}
 use Rattle.transactions.specs.declared.Header.{Header}
-use Rattle.transactions.specs.declared.Reading.{Reading}
-use Rattle.transactions.specs.declared.HeaderReading.{HeaderReading}
+use Rattle.transactions.specs.declared.Halt.{Halt}
 use Rattle.transactions.specs.Sequences.{bytes_of}
 use Rattle.transactions.specs.Calls.{numbers_of, WrittenCall}
 use Rattle.transactions.specs.Readings.{WholeCall, HeaderRead}
@@ -43,9 +43,8 @@ no_call : {rest last : List ℕ} {place : ℕ} (c : Call) (more : List ℕ) → 
 no_call c more (F.ended e) q w = let n = ap length (sym e ∙ q) in omega (arith, length-append (bytes_of (numbers_of c)) more, call_some c)
 no_call {rest} {place = place} c more (F.stopped offset l s) q w =
     let v : WholeCall rest c (length (bytes_of (numbers_of c))) = subst (λ (x : List ℕ). WholeCall x c (length (bytes_of (numbers_of c)))) (sym q) (in_front c more w) in
-    let x : Reading.Stop offset ≡ Reading.Call c (length (bytes_of (numbers_of c))) = call_read_same rest place false (Reading.Stop offset) (Reading.Call c (length (bytes_of (numbers_of c)))) s v in
-    let z : ◌≡◌ {A = ℕ} 0 1 = cc in
-    omega arith
+    let x = call_read_same rest place false (Err (Halt.Stop offset)) (Ok (c, length (bytes_of (numbers_of c)))) s v in
+    cc
 
 calls_same : (cs ds : List Call) (r q : List ℕ) {k n : ℕ} {x y : List ℕ} → AllWritten cs → AllWritten ds → bytes_in cs ++ r ≡ bytes_in ds ++ q → Last r k x → Last q n y → (cs ≡ ds) × (r ≡ q)
 calls_same [] [] r q a b e l m = (refl, e)
@@ -55,10 +54,11 @@ calls_same (c ∷ cs) (d ∷ ds) r q a b e l m =
     let u = bytes_of (numbers_of c) in
     let v = bytes_of (numbers_of d) in
     let f : u ++ (bytes_in cs ++ r) ≡ v ++ (bytes_in ds ++ q) = sym (append_assoc u (bytes_in cs) r) ∙ (e ∙ append_assoc v (bytes_in ds) q) in
-    let g : Reading.Call c (length u) ≡ Reading.Call d (length v) =
-    call_read_same (u ++ (bytes_in cs ++ r)) 0 false (Reading.Call c (length u)) (Reading.Call d (length v)) (in_front c (bytes_in cs ++ r) a.0)
+    let g =
+    call_read_same (u ++ (bytes_in cs ++ r)) 0 false (Ok (c, length u)) (Ok (d, length v)) (in_front c (bytes_in cs ++ r) a.0)
     (subst (λ (x : List ℕ). WholeCall x d (length v)) (sym f) (in_front d (bytes_in ds ++ q) b.0)) in
-    let h : c ≡ d = cc in
+    let k : ◌≡◌ {A = Call × ℕ} (c, length u) (d, length v) = cc in
+    let h = ap (λ (x : Call × ℕ). x.0) k in
     let i : length u ≡ length v = ap (λ (x : Call). length (bytes_of (numbers_of x))) h in
     let j : bytes_in cs ++ r ≡ bytes_in ds ++ q =
     sym (drop-append_seam u (bytes_in cs ++ r)) ∙ (ap (drop (length u)) f ∙ (ap (λ n. drop n (v ++ (bytes_in ds ++ q))) i ∙ drop-append_seam v (bytes_in ds ++ q))) in
@@ -70,7 +70,7 @@ last_same (F.ended e) (F.ended f) = refl
 last_same (F.ended e) (F.stopped offset l s) = absurd (omega (arith, ap length e))
 last_same (F.stopped offset l s) (F.ended f) = absurd (omega (arith, ap length f))
 last_same {rest} {place = place} (F.stopped o l s) (F.stopped p m t) =
-    let g : Reading.Stop o ≡ Reading.Stop p = call_read_same rest place false (Reading.Stop o) (Reading.Stop p) s t in
+    let g = call_read_same rest place false (Err (Halt.Stop o)) (Err (Halt.Stop p)) s t in
     let h : o ≡ p = cc in
     ap stop_line h
 
@@ -84,18 +84,16 @@ prints_same {s} {before} {place} {bytes} {x} {y} p q =
 
 -- ---- the whole file
 
-heads_same : {bytes : List ℕ} {a b : Header} {l m : ℕ} → HeaderRead bytes false (HeaderReading.Header a l) → HeaderRead bytes false (HeaderReading.Header b m) → (a ≡ b) × (l ≡ m)
+heads_same : {bytes : List ℕ} {a b : Header} {l m : ℕ} → HeaderRead bytes false (Ok (a, l)) → HeaderRead bytes false (Ok (b, m)) → (a ≡ b) × (l ≡ m)
 heads_same {bytes} {a} {b} {l} {m} v w =
-    let g = header_read_same bytes false (HeaderReading.Header a l) (HeaderReading.Header b m) v w in
-    let h : a ≡ b = cc in
-    let i : l ≡ m = cc in
-    (h, i)
+    let g = header_read_same bytes false (Ok (a, l)) (Ok (b, m)) v w in
+    let e : ◌≡◌ {A = Header × ℕ} (a, l) (b, m) = cc in
+    (ap (λ (x : Header × ℕ). x.0) e, ap (λ (x : Header × ℕ). x.1) e)
 
-head_stops : {bytes : List ℕ} {a : Header} {l o : ℕ} {P : Type 0} → HeaderRead bytes false (HeaderReading.Header a l) → HeaderRead bytes false (HeaderReading.Stop o) → P
+head_stops : {bytes : List ℕ} {a : Header} {l o : ℕ} {P : Type 0} → HeaderRead bytes false (Ok (a, l)) → HeaderRead bytes false (Err (Halt.Stop o)) → P
 head_stops {bytes} {a} {l} {o} v w =
-    let g = header_read_same bytes false (HeaderReading.Header a l) (HeaderReading.Stop o) v w in
-    let z : ◌≡◌ {A = ℕ} 0 1 = cc in
-    absurd (omega arith)
+    let g = header_read_same bytes false (Ok (a, l)) (Err (Halt.Stop o)) v w in
+    cc
 
 abbrev line_of : Header → List ℕ
 line_of h = set_up_line (set_up_result h.capacity)
@@ -103,7 +101,7 @@ line_of h = set_up_line (set_up_result h.capacity)
 -- LAW: two texts that are printed of a file are the same
 pub file_same : {bytes x y : List ℕ} → PrintsFile bytes x → PrintsFile bytes y → x ≡ y
 file_same {bytes} (S.stopped o v) (S.stopped p w) =
-    let g = header_read_same bytes false (HeaderReading.Stop o) (HeaderReading.Stop p) v w in
+    let g = header_read_same bytes false (Err (Halt.Stop o)) (Err (Halt.Stop p)) v w in
     let h : o ≡ p = cc in
     ap stop_line h
 file_same (S.stopped o v) (S.refused b m w n) = head_stops w v

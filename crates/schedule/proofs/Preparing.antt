@@ -1,9 +1,7 @@
 -- Set-up on memory that is cut to the capacity: its result, and the tables afterwards.
 -- Assumes nothing.
 use Rattle.std.specs.Prelude.{Result, Ok, Err, Some, None, ⊤, Option}
-use Rattle.model.specs.declared.Refusal.{Refusal}
-use Rattle.model.specs.declared.Refusal.TheVariants.{NotSound}
-use mathlib.Core.Path.{◌≡◌, refl, sym, ap, ap₂, ◌∙◌, subst}
+use mathlib.Core.Path.{◌≡◌, refl, ap, ap₂, ◌∙◌, subst}
 use mathlib.Core.Bool.{Bool, true, false, cond}
 use mathlib.Core.List.{List, [], ◌∷◌, ◌++◌}
 use Prim.Native.Nat.{ℕ, ◌+◌, ◌*◌, ◌≤◌, min}
@@ -16,13 +14,18 @@ use Rattle.lists.specs.Holds.{All}
 use Rattle.sizes.specs.declared.Version.{Version}
 use Rattle.sizes.specs.declared.Size.{Size}
 use Rattle.sizes.specs.Sizes.{sizes, seek, size_of}
+use Rattle.model.specs.declared.Refusal.{Refusal}
+use Rattle.model.specs.declared.Refusal.TheVariants.{NotSound}
+use Rattle.model.specs.Answers.{refusal_number}
 use Rattle.tables.specs.declared.Ticket.{Ticket}
 use Rattle.tables.specs.declared.Coordinator.{Coordinator}
 use Rattle.tables.specs.Tables.{Tables}
 use Rattle.soundness.specs.Tested.{lent}
 use Rattle.soundness.specs.SetUp.{fits, answer_in, set_up_answer, set_up_tables, SetUpBy}
 use Rattle.schedule.specs.declared.Lengths.{Lengths}
-use Rattle.schedule.specs.SetUps.{result_in, set_up_result, answer_number, Memory, memory_of, Whole, lengths_of, cut, PreparedBy}
+use Rattle.schedule.specs.declared.Memory.{Memory}
+use Rattle.schedule.specs.declared.Session.{Session}
+use Rattle.schedule.specs.SetUps.{result_in, set_up_result, answer_number, Whole, lengths_of, cut, PreparedBy}
 
 -- ---- the parts that are lent are parts of the memory
 
@@ -41,10 +44,6 @@ pub memory_fits : (s : Option Size) {l : Lengths} {m : Memory} → l ≡ lengths
 memory_fits s e m =
     let f = lengths_fit s in
     rw e (record { of_keys = omega (arith, f.0, m.keyed); of_values = omega (arith, f.0, m.valued); of_rows = omega (arith, f.1, m.rowed); of_buckets = omega (arith, f.2, m.bucketed) })
-
--- a part that came back is at the front
-pub part_front : {A : Type 0} (d e : List A) (n : ℕ) → length e ≡ length (take n d) → n ≤ length d → take n (e ++ drop n d) ≡ e
-part_front d e n h f = take_at e (drop n d) n (h ∙ length-take-le n d f)
 
 -- ---- the result
 
@@ -84,18 +83,17 @@ fits_is size t small k v r b = go (leb size.capacity 256) refl
     go false e = let l = leb-false size.capacity 256 e in rw (ne_eqb (length t.keys) size.capacity (λ x. omega (arith, k)))
 
 -- the number of an answer of set-up is 0 only where it is done
-done_of : (s : Option Size) (t : Tables) → answer_number (answer_in s t) ≡ 0 → answer_in s t ≡ (Ok tt)
-done_of None t e = absurd (omega arith)
-done_of (Some size) t e = go (fits size t) refl
-  where
-    go : (b : Bool) → fits size t ≡ b → cond (fits size t) (Ok tt) (Err NotSound) ≡ (Ok tt)
-    go true f = rw f
-    go false f = let z : ◌≡◌ {A = ℕ} 1 0 = rw f at e in absurd (omega arith)
+number_some : (r : Refusal) → refusal_number r ≡ 0 → ⊥
+number_some r e = grind arith
+
+number_done : (a : Result ⊤ Refusal) → answer_number a ≡ 0 → a ≡ Ok tt
+number_done (Ok tt) e = refl
+number_done (Err r) e = absurd (number_some r e)
 
 module _ {m : Memory} (capacity : ℕ) (start : Version) {l : Lengths} {tickets tickets' : List Ticket} {co co' : Coordinator} {a : Result ⊤ Refusal} {rows' buckets' : List ℕ}
-    (w : Whole m) (e : l ≡ lengths_of (size_of capacity))
-    (s : SetUpBy (cut m l tickets co) (lent (take l.nodes m.keys) (take l.nodes m.values) rows' buckets' tickets' co') capacity start a)
-    (r : length rows' ≡ length (take l.rows m.rows)) (b : length buckets' ≡ length (take l.buckets m.buckets)) where
+    (s : Session) (w : Whole m) (e : l ≡ lengths_of (size_of capacity))
+    (y : SetUpBy (cut m l tickets co) (lent (take l.nodes m.keys) (take l.nodes m.values) rows' buckets' tickets' co') capacity start a)
+    (r : length rows' ≡ l.rows) (b : length buckets' ≡ l.buckets) where
   abbrev t : Tables
   t = cut m l tickets co
 
@@ -104,7 +102,7 @@ module _ {m : Memory} (capacity : ℕ) (start : Version) {l : Lengths} {tickets 
 
   answer_is : a ≡ answer_in (size_of capacity) t
   unfolding set_up_answer
-  answer_is = s.answer
+  answer_is = y.answer
 
   result_is : answer_number a ≡ set_up_result capacity
   result_is = ap answer_number answer_is ∙ go (size_of capacity) refl
@@ -128,26 +126,26 @@ module _ {m : Memory} (capacity : ℕ) (start : Version) {l : Lengths} {tickets 
   tables_same n = go (set_up_answer t capacity) refl
     where
       go : (x : Result ⊤ Refusal) → set_up_answer t capacity ≡ x → set_up_tables t capacity start ≡ t
-      go (Ok tt) q = absurd (n (ap answer_number (s.answer ∙ q)))
+      go (Ok tt) q = absurd (n (ap answer_number (y.answer ∙ q)))
       go (Err k) q = rw q
 
   -- LAW: what set-up leaves of the memory, and its result
-  pub prepared : {n : ℕ} → n ≡ answer_number a
-      → PreparedBy m (memory_of m.keys m.values (rows' ++ drop l.rows m.rows) (buckets' ++ drop l.buckets m.buckets)) capacity start
-      (record { result = n; lengths = l; tickets = tickets'; coordinator = co' })
-  prepared n =
+  pub prepared : PreparedBy m s (record m { rows = rows' ++ drop l.rows m.rows; buckets = buckets' ++ drop l.buckets m.buckets })
+      (record s { lengths = l; tickets = tickets'; coordinator = co' }) capacity start (answer_number a)
+  prepared =
       record {
-        result = n ∙ result_is;
+        result = result_is;
         lengths = e;
         fresh =
             λ z.
-            (let d : a ≡ (Ok tt) = answer_is ∙ done_of (size_of capacity) t (sym (ap answer_number answer_is) ∙ (sym n ∙ z)) in
-            rw (part_front m.rows rows' l.rows r f.of_rows, part_front m.buckets buckets' l.buckets b f.of_buckets)
-            (record { sound = s.sound d; shows = s.model d }));
+            (let d = number_done a z in
+            rw (take_at rows' (drop l.rows m.rows) l.rows r, take_at buckets' (drop l.buckets m.buckets) l.buckets b)
+            (record { sound = y.sound d; shows = y.model d }));
         same =
             λ z.
-            (let q = s.tables ∙ tables_same (λ y. z (n ∙ y)) in
-            ap₂ (λ (x y : List ℕ). memory_of m.keys m.values x y)
+            (let q = y.tables ∙ tables_same z in
+            ap₂ (λ (x y : List ℕ). record m { rows = x; buckets = y })
             (ap (λ (x : Tables). x.rows ++ drop l.rows m.rows) q ∙ take-append-drop l.rows m.rows)
             (ap (λ (x : Tables). x.buckets ++ drop l.buckets m.buckets) q ∙ take-append-drop l.buckets m.buckets));
+        window = refl;
       }

@@ -1,20 +1,21 @@
 // Runs a schedule file of any length from standard input and prints a line for each transaction, as document 01 says.
 #![tactic(auto)]
 
-ghost use Rattle.std.specs.Prelude.{◌≡◌, ◌≤◌, min, length};
+ghost use Rattle.std.specs.Prelude.{◌≡◌, ◌≤◌, length};
 ghost use Rattle.sizes.specs.Sizes.{size_of};
 ghost use Rattle.listing.specs.Puts.{Room, Put};
-ghost use Rattle.schedule.specs.SetUps.{memory_of, Whole, lengths_of, PreparedBy, answer_number};
-ghost use Rattle.schedule.specs.Turns.{Starts, Ready, Rooms, input_size, last_most, Within, last_of, next_of, next_after, HeaderBy, PartBy, Begins, Goes, TurnBy, ReadOnBy};
+ghost use Rattle.schedule.specs.SetUps.{lengths_of, PreparedBy, answer_number};
+ghost use Rattle.schedule.specs.Turns.{Starts, Ready, last_most, Within, last_of, next_of, next_after, HeaderBy, PartBy, Begins, Goes, TurnBy, ReadOnBy};
 
 use batch::End;
-use model::SetUp;
-use sizes::{Sized, Version};
+use failures::Stop;
+use model::Refusal;
+use sizes::Version;
 use std::io::{self, ErrorKind};
 use std::process::ExitCode;
 use tables::{Coordinator, Ticket};
-use transactions::{Header, HeaderReading};
-use windows::{Fetched, Window};
+use transactions::{Halt, Header};
+use windows::Window;
 
 // The nodes, cells of rows and buckets that there is memory for: those of capacity 256.
 const NODES: usize = 256;
@@ -33,7 +34,23 @@ const PAIRS: usize = 3584;
 
 const OUTPUT: usize = 262144;
 
-// ---- set-up
+// The memory for the tables.
+#[derive(Drop)]
+struct Memory {
+    keys: [u64; NODES],
+    values: [i64; NODES],
+    rows: [u32; ROWS],
+    buckets: [u32; BUCKETS],
+}
+
+// The room for the cells and the pairs of a batch, and for the bytes that are to be printed.
+#[derive(Drop)]
+struct Buffers {
+    answers: [i64; CELLS],
+    out_keys: [i64; PAIRS],
+    out_values: [i64; PAIRS],
+    out: [u8; OUTPUT],
+}
 
 // How the memory is cut.
 #[derive(Clone, Copy)]
@@ -43,95 +60,9 @@ struct Lengths {
     buckets: usize,
 }
 
-fn least(a: usize, b: usize) -> usize
-    ensures { result ≡ min a b }
-{
-    if a < b { a } else { b }
-}
-
-// The lengths that a capacity asks for, as far as the memory goes; none where the table has no such capacity.
-fn lengths_of(capacity: u32) -> Lengths
-    ensures { result ≡ lengths_of (size_of capacity) }
-{
-    match sizes::size_of(capacity) {
-        Sized::Of(size) => Lengths {
-            nodes: least(size.capacity as usize, NODES),
-            rows: least((size.capacity as usize + 2) * 32, ROWS),
-            buckets: least(size.buckets as usize, BUCKETS),
-        },
-        Sized::Nothing => Lengths {
-            nodes: 0,
-            rows: 0,
-            buckets: 0,
-        },
-    }
-}
-
-// What set-up came to: its result, how the memory is cut, and what is lent by value.
-#[derive(Clone, Copy)]
-struct Prepared {
-    result: u64,
-    lengths: Lengths,
-    tickets: [Ticket; 16],
-    coordinator: Coordinator,
-}
-
-// The result of set-up: 0 or the refusal.
-fn result_of(answer: SetUp) -> u64
-    ensures { result ≡ answer_number answer }
-{
-    match answer {
-        SetUp::Done => 0,
-        SetUp::Refused(n) => n as u64,
-    }
-}
-
-// Sets up the parts of the memory that a capacity asks for.
-fn prepare(
-    keys: &[u64],
-    values: &[i64],
-    rows: &mut [u32],
-    buckets: &mut [u32],
-    capacity: u32,
-    start: Version,
-) -> Prepared
-    requires { Whole (memory_of keys.now values.now rows.old buckets.old) }
-    ensures { PreparedBy (memory_of keys.now values.now rows.old buckets.old) (memory_of keys.now values.now rows.new buckets.new) capacity start result }
-{
-    let lengths = lengths_of(capacity);
-    let nodes = lengths.nodes;
-    let cells = lengths.rows;
-    let chains = lengths.buckets;
-    let made = soundness::set_up(
-        &keys[..nodes],
-        &values[..nodes],
-        &mut rows[..cells],
-        &mut buckets[..chains],
-        [tables::no_ticket(); 16],
-        Coordinator {
-            counter: Version(0),
-            ranges: 0,
-            due: 0,
-        },
-        capacity,
-        start,
-    );
-    let answer = made.answer;
-    let tickets = made.tickets;
-    let coordinator = made.coordinator;
-    Prepared {
-        result: result_of(answer),
-        lengths,
-        tickets,
-        coordinator,
-    }
-}
-
-// ---- turn by turn
-
-// What is carried from turn to turn: whether the header was read, how the memory is cut then, what is lent by value, what is held of the input, and
-// how many calls were made.
-#[derive(Clone, Copy)]
+// What is carried from turn to turn: whether the header was read, how the memory is cut then, its tickets and its coordinator, what is held of
+// the input, and how many calls were made.
+#[derive(Drop)]
 struct Session {
     begun: bool,
     lengths: Lengths,
@@ -142,7 +73,7 @@ struct Session {
 }
 
 // What comes behind a turn: another, another once more was read, nothing, or nothing since the tables are not sound.
-#[derive(Clone, Copy)]
+#[derive(Clone, Copy, Debug, PartialEq, Eq)]
 enum Next {
     On,
     Read,
@@ -150,13 +81,73 @@ enum Next {
     Unsound,
 }
 
-// What a turn came to: what is carried on, how many bytes it laid down to be printed, and what comes next.
+// What a turn came to: how many bytes it laid down to be printed, and what comes next.
 #[derive(Clone, Copy)]
 struct Turned {
-    session: Session,
     length: usize,
     next: Next,
 }
+
+// ---- set-up
+
+// The lengths that a capacity asks for, as far as the memory goes; none where the table has no such capacity.
+fn lengths_of(capacity: u32) -> Lengths
+    ensures { result ≡ lengths_of (size_of capacity) }
+{
+    match sizes::size_of(capacity) {
+        Some(size) => Lengths {
+            nodes: (size.capacity as usize).min(NODES),
+            rows: ((size.capacity as usize + 2) * 32).min(ROWS),
+            buckets: (size.buckets as usize).min(BUCKETS),
+        },
+        None => Lengths {
+            nodes: 0,
+            rows: 0,
+            buckets: 0,
+        },
+    }
+}
+
+// Sets up the parts of the memory that a capacity asks for.
+fn prepare(
+    memory: &mut Memory,
+    session: &mut Session,
+    capacity: u32,
+    start: Version,
+) -> Result<(), Refusal>
+    ensures { PreparedBy memory.old session.old memory.new session.new capacity start (answer_number result) }
+{
+    let lengths = lengths_of(capacity);
+    session.lengths = lengths;
+    let Memory {
+        keys,
+        values,
+        rows,
+        buckets,
+    } = memory;
+    soundness::set_up(
+        keys.split_at(lengths.nodes).0,
+        values.split_at(lengths.nodes).0,
+        rows.split_at_mut(lengths.rows).0,
+        buckets.split_at_mut(lengths.buckets).0,
+        &mut session.tickets,
+        &mut session.coordinator,
+        capacity,
+        start,
+    )
+}
+
+// The result of set-up: 0 or the number of the refusal.
+fn result_of(answer: Result<(), Refusal>) -> u64
+    ensures { result ≡ answer_number answer }
+{
+    match answer {
+        Ok(()) => 0,
+        Err(refusal) => u64::from(u32::from(refusal)),
+    }
+}
+
+// ---- turn by turn
 
 // What is carried to the first turn.
 fn waiting() -> Session
@@ -175,7 +166,7 @@ fn waiting() -> Session
             ranges: 0,
             due: 0,
         },
-        window: windows::unread_window(),
+        window: Window::unread(),
         calls: 0,
     }
 }
@@ -184,74 +175,49 @@ fn waiting() -> Session
 fn next_after(res: u64) -> Next
     ensures { result ≡ next_after res }
 {
-    if res == 0 {
-        return Next::On;
-    }
-    Next::Over
+    if res == 0 { Next::On } else { Next::Over }
 }
 
 // Sets up as the header says, which takes so many of the bytes held, and lays down the line of that.
 fn begin(
-    keys: &[u64],
-    values: &[i64],
-    rows: &mut [u32],
-    buckets: &mut [u32],
-    session: Session,
+    memory: &mut Memory,
+    session: &mut Session,
     header: Header,
     length: usize,
     out: &mut [u8],
 ) -> Turned
-    requires { Whole (memory_of keys.now values.now rows.old buckets.old) × Room out.old 0 64 }
-    ensures { Begins (memory_of keys.now values.now rows.old buckets.old) session (memory_of keys.now values.now rows.new buckets.new) out.new result header length }
+    requires { Room out.old 0 64 }
+    ensures { Begins memory.old session.old memory.new session.new out.new result header length }
 {
-    let prepared = prepare(keys, values, rows, buckets, header.capacity, header.start);
-    let result = prepared.result;
-    let lengths = prepared.lengths;
-    let tickets = prepared.tickets;
-    let coordinator = prepared.coordinator;
-    let laid = listing::put_number_line(out, 0, b"set-up", result);
+    let answer = prepare(memory, session, header.capacity, header.start);
+    let result = result_of(answer);
+    session.begun = true;
+    session.window = session.window.drop_front(length);
+    session.calls = 0;
     Turned {
-        session: Session {
-            begun: true,
-            lengths,
-            tickets,
-            coordinator,
-            window: windows::drop_front(session.window, length),
-            calls: 0,
-        },
-        length: laid,
+        length: listing::put_number_line(out, 0, b"set-up", result),
         next: next_after(result),
     }
 }
 
 // The turn at the header: lays down the line of set-up, or that of a stop, or nothing where more is to be read first.
 fn first_turn(
-    keys: &[u64],
-    values: &[i64],
-    rows: &mut [u32],
-    buckets: &mut [u32],
-    session: Session,
-    input: &[u8],
+    memory: &mut Memory,
+    session: &mut Session,
+    input: &[u8; INPUT],
     out: &mut [u8],
 ) -> Turned
-    requires { Ready session × Whole (memory_of keys.now values.now rows.old buckets.old) × (length input.now ≡ input_size) × Room out.old 0 64 }
-    ensures { HeaderBy (memory_of keys.now values.now rows.old buckets.old) session input.now (memory_of keys.now values.now rows.new buckets.new) out.new result × Goes session result }
+    requires { Ready session.old × Room out.old 0 64 }
+    ensures { HeaderBy memory.old session.old input.now memory.new session.new out.new result × Goes session.old session.new result }
 {
     let window = session.window;
-    let from = window.from;
-    let to = window.to;
-    let reading = transactions::read_header(&input[from..to], window.more);
-    match reading {
-        HeaderReading::Header(header, length) => {
-            begin(keys, values, rows, buckets, session, header, length, out)
-        }
-        HeaderReading::Stop(place) => Turned {
-            session,
-            length: listing::put_number_line(out, 0, b"stop", windows::offset_of(window, place)),
+    match transactions::read_header(&input[window.from..window.to], window.more) {
+        Ok((header, length)) => begin(memory, session, header, length, out),
+        Err(Halt::Stop(place)) => Turned {
+            length: listing::put_number_line(out, 0, b"stop", window.offset_of(place)),
             next: Next::Over,
         },
-        HeaderReading::More => Turned {
-            session,
+        Err(Halt::More) => Turned {
             length: 0,
             next: Next::Read,
         },
@@ -266,16 +232,13 @@ fn put_last(out: &mut [u8], at: usize, window: Window, end: End) -> usize
     match end {
         End::Ended => {
             if window.more {
-                return at;
+                at
+            } else {
+                listing::put_word_line(out, at, b"end")
             }
-            listing::put_word_line(out, at, b"end")
         }
-        End::Stop(place) => {
-            listing::put_number_line(out, at, b"stop", windows::offset_of(window, place))
-        }
-        End::More => at,
-        End::Full => at,
-        End::Refused(_) => at,
+        End::Stop(place) => listing::put_number_line(out, at, b"stop", window.offset_of(place)),
+        End::More | End::Full | End::Refused(_) => at,
     }
 }
 
@@ -284,13 +247,8 @@ fn next_of(window: Window, end: End) -> Next
     ensures { result ≡ next_of window end }
 {
     match end {
-        End::Ended => {
-            if window.more {
-                return Next::Read;
-            }
-            Next::Over
-        }
-        End::Stop(_) => Next::Over,
+        End::Ended if window.more => Next::Read,
+        End::Ended | End::Stop(_) => Next::Over,
         End::More => Next::Read,
         End::Full => Next::On,
         End::Refused(_) => Next::Unsound,
@@ -299,112 +257,101 @@ fn next_of(window: Window, end: End) -> Next
 
 // A turn behind the header: makes the calls that are held, as far as there is room, and lays down their lines, and the last line where the file ends.
 fn part_turn(
-    keys: &mut [u64],
-    values: &mut [i64],
-    rows: &mut [u32],
-    buckets: &mut [u32],
-    session: Session,
-    input: &[u8],
-    answers: &mut [i64],
-    out_keys: &mut [i64],
-    out_values: &mut [i64],
-    out: &mut [u8],
+    memory: &mut Memory,
+    session: &mut Session,
+    input: &[u8; INPUT],
+    buffers: &mut Buffers,
 ) -> Turned
-    requires { Ready session × Whole (memory_of keys.old values.old rows.old buckets.old) × Rooms (length input.now) (length answers.old) (length out_keys.old) (length out_values.old) (length out.old) }
-    ensures { PartBy (memory_of keys.old values.old rows.old buckets.old) session input.now answers.old out_keys.old out_values.old (memory_of keys.new values.new rows.new buckets.new) out.new result × Goes session result }
+    requires { Ready session.old }
+    ensures { PartBy memory.old session.old input.now buffers.old memory.new session.new buffers.new result × Goes session.old session.new result }
 {
-    let window = session.window;
-    let from = window.from;
-    let to = window.to;
     let lengths = session.lengths;
-    let nodes = lengths.nodes;
-    let cells = lengths.rows;
-    let chains = lengths.buckets;
-    let tickets = session.tickets;
-    let coordinator = session.coordinator;
-    let calls = session.calls;
+    let window = session.window;
+    let Memory {
+        keys,
+        values,
+        rows,
+        buckets,
+    } = memory;
     let part = lines::run_part(
-        &mut keys[..nodes],
-        &mut values[..nodes],
-        &mut rows[..cells],
-        &mut buckets[..chains],
-        tickets,
-        coordinator,
-        &input[from..to],
+        keys.split_at_mut(lengths.nodes).0,
+        values.split_at_mut(lengths.nodes).0,
+        rows.split_at_mut(lengths.rows).0,
+        buckets.split_at_mut(lengths.buckets).0,
+        &mut session.tickets,
+        &mut session.coordinator,
+        &input[window.from..window.to],
         window.more,
-        calls,
-        answers,
-        out_keys,
-        out_values,
-        out,
+        session.calls,
+        &mut buffers.answers,
+        &mut buffers.out_keys,
+        &mut buffers.out_values,
+        &mut buffers.out,
     );
     let batch = part.batch;
-    let end = batch.end;
-    let after = batch.tickets;
-    let counts = batch.coordinator;
-    let laid = put_last(out, part.length, window, end);
+    session.begun = true;
+    session.window = window.drop_front(batch.used);
+    session.calls += batch.calls as u64;
     Turned {
-        session: Session {
-            begun: true,
-            lengths,
-            tickets: after,
-            coordinator: counts,
-            window: windows::drop_front(window, batch.used),
-            calls: calls + batch.calls as u64,
-        },
-        length: laid,
-        next: next_of(window, end),
+        length: put_last(&mut buffers.out, part.length, window, batch.end),
+        next: next_of(window, batch.end),
     }
 }
 
-// A turn: lays the bytes that are to be printed at the front of `out`.
+// A turn: lays the bytes that are to be printed at the front of the buffer for them.
 fn turn(
-    keys: &mut [u64],
-    values: &mut [i64],
-    rows: &mut [u32],
-    buckets: &mut [u32],
-    session: Session,
-    input: &[u8],
-    answers: &mut [i64],
-    out_keys: &mut [i64],
-    out_values: &mut [i64],
-    out: &mut [u8],
+    memory: &mut Memory,
+    session: &mut Session,
+    input: &[u8; INPUT],
+    buffers: &mut Buffers,
 ) -> Turned
-    requires { Ready session × Whole (memory_of keys.old values.old rows.old buckets.old) × Rooms (length input.now) (length answers.old) (length out_keys.old) (length out_values.old) (length out.old) }
-    ensures { TurnBy (memory_of keys.old values.old rows.old buckets.old) session input.now answers.old out_keys.old out_values.old (memory_of keys.new values.new rows.new buckets.new) out.new result }
+    requires { Ready session.old }
+    ensures { TurnBy memory.old session.old input.now buffers.old memory.new session.new buffers.new result }
 {
     if session.begun {
-        return part_turn(
-            keys, values, rows, buckets, session, input, answers, out_keys, out_values, out,
-        );
+        part_turn(memory, session, input, buffers)
+    } else {
+        first_turn(memory, session, input, &mut buffers.out)
     }
-    first_turn(keys, values, rows, buckets, session, input, out)
 }
 
 // ---- what no contract says: which bytes are read and written
 
-fn complain(rt: &HostRuntime, text: &[u8]) {
-    let _ = rt.stderr().write_all(text);
+// Why the run stops where a write failed: it says so, but not to a reader that has left.
+fn unwritten(rt: &HostRuntime, error: io::Error) -> Stop {
+    if error.kind() == ErrorKind::BrokenPipe {
+        return Stop::ReaderLeft;
+    }
+    let _ = eprintln!(rt; "schedule: writing standard output failed");
+    Stop::Told
 }
 
 // Prints the first bytes of a buffer.
-fn print(rt: &HostRuntime, out: &[u8], end: usize) -> io::Result<()>
+fn print(rt: &HostRuntime, out: &[u8], end: usize) -> Result<(), Stop>
     requires { end ≤ length out.now }
 {
-    rt.stdout().write_all(&out[..end])
+    rt.stdout()
+        .write_all(&out[..end])
+        .map_err(|error| unwritten(rt, error))
 }
 
-// What is held at the next turn, once more was read where that comes first.
-fn read_on(rt: &HostRuntime, input: &mut [u8], window: Window, next: Next) -> Fetched
+// What is held at the next turn, once more was read where that comes first; nothing where the run is over.
+fn read_on(rt: &HostRuntime, input: &mut [u8], window: Window, next: Next) -> Option<Window>
     ensures { ReadOnBy window input.old next result input.new }
 {
     match next {
-        Next::On => Fetched::Held(window),
-        Next::Read => windows::fetch(rt, b"schedule", input, window),
-        Next::Over => Fetched::Failed,
+        Next::On => Some(window),
+        Next::Read => match windows::fetch(&mut rt.stdin(), input, window) {
+            Ok(held) => Some(held),
+            Err(error) => {
+                let _ = eprintln!(rt; "schedule: {error}");
+                None
+            }
+        },
+        Next::Over => None,
         Next::Unsound => {
-            complain(rt, b"schedule: the tables are not sound\n");
-            Fetched::Failed
+            let _ = eprintln!(rt; "schedule: the tables are not sound");
+            None
         }
     }
 }
@@ -412,67 +359,38 @@ fn read_on(rt: &HostRuntime, input: &mut [u8], window: Window, next: Next) -> Fe
 // Makes turn after turn, prints what each lays down, and reads on, until the run is over or a write fails.
 fn run(
     rt: &HostRuntime,
-    keys: &mut [u64],
-    values: &mut [i64],
-    rows: &mut [u32],
-    buckets: &mut [u32],
-    input: &mut [u8],
-    answers: &mut [i64],
-    out_keys: &mut [i64],
-    out_values: &mut [i64],
-    out: &mut [u8],
-) -> io::Result<()>
-    requires { Whole (memory_of keys.old values.old rows.old buckets.old) × Rooms (length input.old) (length answers.old) (length out_keys.old) (length out_values.old) (length out.old) }
-{
+    memory: &mut Memory,
+    input: &mut [u8; INPUT],
+    buffers: &mut Buffers,
+) -> Result<(), Stop> {
     let mut session = waiting();
     loop {
-        let turned = turn(
-            keys, values, rows, buckets, session, input, answers, out_keys, out_values, out,
-        );
-        print(rt, out, turned.length)?;
-        session = turned.session;
-        let next = turned.next;
-        let Fetched::Held(window) = read_on(rt, input, session.window, next) else {
+        let turned = turn(memory, &mut session, input, buffers);
+        print(rt, &buffers.out, turned.length)?;
+        let Some(window) = read_on(rt, input, session.window, turned.next) else {
             return Ok(());
         };
         session.window = window;
     }
 }
 
-// How the program ends where a write failed: it says so, but not to a reader that has left.
-fn end_of(rt: &HostRuntime, error: io::Error) -> ExitCode {
-    if error.kind() == ErrorKind::BrokenPipe {
-        return ExitCode::from(failures::READER_LEFT);
-    }
-    complain(rt, b"schedule: writing standard output failed\n");
-    ExitCode::SUCCESS
-}
-
 // Lends the memory for the tables, which is that of capacity 256, and the room for one batch at a time.
 fn main(rt: HostRuntime) -> ExitCode {
-    let mut keys = [0u64; NODES];
-    let mut values = [0i64; NODES];
-    let mut rows = [0u32; ROWS];
-    let mut buckets = [0u32; BUCKETS];
-    let mut input = [0u8; INPUT];
-    let mut answers = [0i64; CELLS];
-    let mut out_keys = [0i64; PAIRS];
-    let mut out_values = [0i64; PAIRS];
-    let mut out = [0u8; OUTPUT];
-    let ran = run(
-        &rt,
-        &mut keys,
-        &mut values,
-        &mut rows,
-        &mut buckets,
-        &mut input,
-        &mut answers,
-        &mut out_keys,
-        &mut out_values,
-        &mut out,
-    );
-    match ran {
+    let mut memory = Memory {
+        keys: [0; NODES],
+        values: [0; NODES],
+        rows: [0; ROWS],
+        buckets: [0; BUCKETS],
+    };
+    let mut input = [0; INPUT];
+    let mut buffers = Buffers {
+        answers: [0; CELLS],
+        out_keys: [0; PAIRS],
+        out_values: [0; PAIRS],
+        out: [0; OUTPUT],
+    };
+    match run(&rt, &mut memory, &mut input, &mut buffers) {
         Ok(()) => ExitCode::SUCCESS,
-        Err(error) => end_of(&rt, error),
+        Err(stop) => stop.into(),
     }
 }

@@ -1,31 +1,29 @@
 -- `schedule::part_turn` meets its contract.
-use mathlib.Core.Path.{refl, sym, ◌∙◌}
-use lib.Seq.{length-take-le}
-use Rattle.schedule.proofs.Turning.{ready_fits, bytes_held, last_room, stop_within, calls_fit, part_goes, part_by}
+use Rattle.std.proofs.Common.{arith, refl, ◌∙◌, length}
+use Rattle.schedule.specs.Turns.{Rooms}
+use Rattle.schedule.proofs.Turning.{Leaves, part_leaves, part_by}
 use Rattle.schedule.proofs.part_turn.Goals as goal
+use Rattle.schedule.proofs.part_turn.Goals.{After-run_part-part}
 
-pub slice_bounds-run_part-end-2 : goal.slice_bounds-run_part-end-2
-slice_bounds-run_part-end-2 c = sym (length-take-le _ _ (ready_fits c.requires.0 c.requires.1).of_keys)
+rooms : (c : After-run_part-part) → Rooms (length c.args.input.now) (length c.args.buffers.now.answers) (length c.args.buffers.now.out_keys) (length c.args.buffers.now.out_values) (length c.args.buffers.now.out)
+rooms c = record { holds = omega arith; cells = omega arith; for_keys = omega arith; for_values = omega arith; lines = omega arith }
 
-pub slice_bounds-run_part-end-4 : goal.slice_bounds-run_part-end-4
-slice_bounds-run_part-end-4 c = sym (length-take-le _ _ (ready_fits c.requires.0 c.requires.1).of_values)
+leaves : (c : After-run_part-part) → Leaves c.args.session.now c.run_part-part.result.batch c.run_part-part.new.out c.run_part-part.result.length
+leaves c = let run = c.run_part-part in part_leaves c.args.input.now run.ensures c.requires (rooms c) run.auto.answers run.auto.out_keys run.auto.out_values run.auto.out
 
-pub slice_bounds-run_part-end-6 : goal.slice_bounds-run_part-end-6
-slice_bounds-run_part-end-6 c = sym (length-take-le _ _ (ready_fits c.requires.0 c.requires.1).of_rows)
+pub overflow_add-session : goal.overflow_add-session
+overflow_add-session c = record { fits = (leaves (goal.at.overflow_add-session c).After-run_part-part).counted }
 
-pub slice_bounds-run_part-end-8 : goal.slice_bounds-run_part-end-8
-slice_bounds-run_part-end-8 c = sym (length-take-le _ _ (ready_fits c.requires.0 c.requires.1).of_buckets)
-
-pub put_last-laid-requires : goal.put_last-laid-requires
-put_last-laid-requires c = (last_room c.run_part-part.ensures c.requires.2 c.run_part-part.auto.out, stop_within c.run_part-part.ensures c.requires.2 c.requires.0 (record { answers = c.run_part-part.auto.answers; keys = c.run_part-part.auto.out_keys; values = c.run_part-part.auto.out_values }) (bytes_held c.requires.0 c.args.input.now c.requires.2.holds))
-
-pub overflow_add-result : goal.overflow_add-result
-overflow_add-result c = record { fits = calls_fit c.run_part-part.ensures c.requires.2 c.requires.0 (record { answers = c.run_part-part.auto.answers; keys = c.run_part-part.auto.out_keys; values = c.run_part-part.auto.out_values }) (bytes_held c.requires.0 c.args.input.now c.requires.2.holds) }
+pub put_last-requires : goal.put_last-requires
+put_last-requires c = let x = leaves (goal.at.put_last-requires c).After-run_part-part in (x.room, x.within)
 
 pub returns : goal.returns
 returns c =
+    let x = (goal.at.returns c).After-run_part-part in
     let run = c.run_part-part in
-    let pre = c.requires in (
-      part_by pre.0 pre.1 pre.2 run.ensures c.put_last-laid.ensures (c.put_last-laid.auto.out ∙ run.auto.out) run.auto.keys run.auto.values run.auto.rows run.auto.buckets c.drop_front.ensures c.next_of.ensures,
-      part_goes run.ensures pre.2 pre.0 (record { answers = run.auto.answers; keys = run.auto.out_keys; values = run.auto.out_values }) (bytes_held pre.0 c.args.input.now pre.2.holds) refl refl c.drop_front.ensures refl c.next_of.ensures,
+    let printed = rw (c.split_at_mut.ensures.front, c.split_at_mut-2.ensures.front, c.split_at_mut-3.ensures.front, c.split_at_mut-4.ensures.front) at run.ensures in
+    rw (c.split_at_mut.ensures.back, c.split_at_mut-2.ensures.back, c.split_at_mut-3.ensures.back, c.split_at_mut-4.ensures.back, c.drop_front-session.ensures, c.next_of.ensures) (
+      part_by (rooms x) printed c.put_last.ensures (c.put_last.auto.out ∙ run.auto.out) (run.auto.keys ∙ c.split_at_mut.ensures.front_len) (run.auto.values ∙ c.split_at_mut-2.ensures.front_len)
+          (run.auto.rows ∙ c.split_at_mut-3.ensures.front_len) (run.auto.buckets ∙ c.split_at_mut-4.ensures.front_len),
+      (leaves x).goes refl refl refl refl,
     )
