@@ -8,7 +8,7 @@ Every word in backticks there must be one of these forms, and what it names must
   CRATE/specs/FILE.NAME, CRATE/proofs/FILE.NAME        a public definition, record, data type, constructor or theorem of that file
   CRATE/specs/FILE.RECORD.FIELD                        a field of a record
   CRATE/specs/FILE, CRATE/proofs/FILE                  the file
-  CRATE::NAME                                          a function with a contract, or a type, of CRATE/src
+  CRATE::NAME                                          a function or a method with a contract, or a type or a trait, of CRATE/src
   CRATE/must-fail/LABEL, tests/edits/CRATE/LABEL       a must-fail edit
   a path of the repository, or a word of PLAIN below
 

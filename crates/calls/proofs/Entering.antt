@@ -1,9 +1,9 @@
 -- An entry point's two ways: refused by the test, or the call made.
 -- Assumes nothing.
-use Rattle.std.specs.Prelude.{Result, Ok, Err, ⊤, is_ok, IsOkUnless}
+use Rattle.std.specs.Prelude.{Result, Ok, Err, ⊤, is_ok, IsOkUnless, IsErrAnd}
 use Rattle.model.specs.declared.Refusal.{Refusal}
 use Rattle.model.specs.declared.Refusal.TheVariants.{NotSound}
-use mathlib.Core.Path.{◌≡◌, refl, sym, ap, subst}
+use mathlib.Core.Path.{◌≡◌, refl, sym, ap, subst, ◌∙◌}
 use mathlib.Core.Bool.{Bool, true, false}
 use Rattle.lists.specs.Tests.{Says}
 use Rattle.lists.proofs.Answers.{never}
@@ -36,8 +36,9 @@ module _ {X E : Type 0} {tables : X → Tables} {of : E → Answer} {c : Call} {
       }
 
 -- LAW: the test of the tables refused: nothing changed, and the answer is its refusal
-pub refused_by : {X A : Type 0} {tables : X → Tables} {of : Result A Refusal → Answer} {c : Call} {before after : X} {given : Result A Refusal} {r : Result ⊤ Refusal} {e : Refusal}
-    → Says (is_ok r) (Sound (tables before)) → IsOkUnless r NotSound → r ≡ Err e → Outcome tables of c before before after (Err e) given (Err NotSound)
-refused_by {tables = tables} {of = of} {c = c} {before = before} {after = after} {given = given} {r = r} {e = e} s u w =
-    let f : e ≡ NotSound = rw w at u in
-    subst (λ (x : Refusal). Outcome tables of c before before after (Err x) given (Err NotSound)) (sym f) (refusing s (ap is_ok w))
+pub refused_by : {X A : Type 0} {tables : X → Tables} {of : Result A Refusal → Answer} {c : Call} {before after : X} {given answer : Result A Refusal} {r : Result ⊤ Refusal} {e : Refusal}
+    → Says (is_ok r) (Sound (tables before)) → IsOkUnless r NotSound → r ≡ Err e → IsErrAnd answer (λ x. x ≡ e) → Outcome tables of c before before after answer given (Err NotSound)
+refused_by {tables = tables} {of = of} {c = c} {before = before} {after = after} {given = given} {answer = Err x} s u w g =
+    let f : x ≡ NotSound = g ∙ rw w at u in
+    subst (λ y. Outcome tables of c before before after (Err y) given (Err NotSound)) (sym f) (refusing s (ap is_ok w))
+refused_by {answer = Ok a} s u w g = absurd g

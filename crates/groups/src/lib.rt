@@ -116,11 +116,11 @@ fn read_each(bytes: &[u8], at: usize) -> Result<(u64, usize), Unread>
     Err(Unread::CutOff)
 }
 
-// Whether the bytes left from this place on are only the beginning of a number.
+// Whether the bytes left from this place on are only the beginning of a number. It is asked seldom, so `read` keeps its one caller.
 pub fn begun(bytes: &[u8], at: usize) -> bool
     ensures { Says result (Begun (drop at bytes.now)) }
 {
-    matches!(read(bytes, at), Err(Unread::CutOff))
+    matches!(read_each(bytes, at), Err(Unread::CutOff))
 }
 
 // How many bytes a number takes.

@@ -68,7 +68,7 @@ pub fn put_bytes(out: &mut [u8], at: usize, word: &[u8]) -> usize
 }
 
 // Puts a space and the decimal text of an integer.
-fn put_spaced(out: &mut [u8], at: usize, n: i64) -> usize
+pub fn put_spaced(out: &mut [u8], at: usize, n: i64) -> usize
     requires { Room out.old at (longest 1) }
     ensures { Put out.old at (longest 1) (32 ∷ integer n) out.new result }
 {

@@ -19,7 +19,14 @@ fn show_lines(rt: &impl Print) -> io::Result<()> {
     let keys = [-9223372036854775808, -10, 0, 9223372036854775807];
     let values = [9223372036854775807, 99, -100, -9223372036854775808];
     let first = listing::put_line(&mut out, 0, 7, &numbers[..4], &keys[..2], &values[..2]);
-    let second = listing::put_line(&mut out, first, 18446744073709551615, &numbers, &keys, &values);
+    let second = listing::put_line(
+        &mut out,
+        first,
+        18446744073709551615,
+        &numbers,
+        &keys,
+        &values,
+    );
     let third = listing::put_line(&mut out, second, 10, &numbers[..1], &[], &[]);
     print(rt, &out, third)
 }

@@ -4,6 +4,7 @@ use mathlib.Core.Path.{◌≡◌, refl}
 use mathlib.Core.List.{List, [], ◌∷◌}
 use Prim.Native.Nat.{ℕ}
 use Rattle.notation.specs.declared.Fault.TheVariants.{UnknownWord, NumberMissing, TooManyWords, NotANumber, OutOfRange, StartMissing}
+use Rattle.notation.specs.declared.Kind.TheVariants.{Key, Small}
 use Rattle.notation.specs.Words.{words}
 use Rattle.notation.specs.Numerals.{number}
 use Rattle.notation.specs.Forms.{names, start, kinds, Sense, nothing, numbers, wrong, sense}
@@ -32,17 +33,17 @@ unfolding words number names start kinds sense
 least_key = refl
 
 -- `lookup -9223372036854775809`
-below_least : says (108 ∷ 111 ∷ 111 ∷ 107 ∷ 117 ∷ 112 ∷ 32 ∷ 45 ∷ 57 ∷ 50 ∷ 50 ∷ 51 ∷ 51 ∷ 55 ∷ 50 ∷ 48 ∷ 51 ∷ 54 ∷ 56 ∷ 53 ∷ 52 ∷ 55 ∷ 55 ∷ 53 ∷ 56 ∷ 48 ∷ 57 ∷ []) ≡ wrong (OutOfRange 0) 1
+below_least : says (108 ∷ 111 ∷ 111 ∷ 107 ∷ 117 ∷ 112 ∷ 32 ∷ 45 ∷ 57 ∷ 50 ∷ 50 ∷ 51 ∷ 51 ∷ 55 ∷ 50 ∷ 48 ∷ 51 ∷ 54 ∷ 56 ∷ 53 ∷ 52 ∷ 55 ∷ 55 ∷ 53 ∷ 56 ∷ 48 ∷ 57 ∷ []) ≡ wrong (OutOfRange Key) 1
 unfolding words number names start kinds sense
 below_least = refl
 
 -- `hand-over -1`
-negative_node : says (104 ∷ 97 ∷ 110 ∷ 100 ∷ 45 ∷ 111 ∷ 118 ∷ 101 ∷ 114 ∷ 32 ∷ 45 ∷ 49 ∷ []) ≡ wrong (OutOfRange 2) 1
+negative_node : says (104 ∷ 97 ∷ 110 ∷ 100 ∷ 45 ∷ 111 ∷ 118 ∷ 101 ∷ 114 ∷ 32 ∷ 45 ∷ 49 ∷ []) ≡ wrong (OutOfRange Small) 1
 unfolding words number names start kinds sense
 negative_node = refl
 
 -- `step 1 4294967296`
-great_room : says (115 ∷ 116 ∷ 101 ∷ 112 ∷ 32 ∷ 49 ∷ 32 ∷ 52 ∷ 50 ∷ 57 ∷ 52 ∷ 57 ∷ 54 ∷ 55 ∷ 50 ∷ 57 ∷ 54 ∷ []) ≡ wrong (OutOfRange 2) 2
+great_room : says (115 ∷ 116 ∷ 101 ∷ 112 ∷ 32 ∷ 49 ∷ 32 ∷ 52 ∷ 50 ∷ 57 ∷ 52 ∷ 57 ∷ 54 ∷ 55 ∷ 50 ∷ 57 ∷ 54 ∷ []) ≡ wrong (OutOfRange Small) 2
 unfolding words number names start kinds sense
 great_room = refl
 

@@ -1,114 +1,39 @@
 -- Laws of the forms of a line: the code's tables, the number of a name, and the words behind a name one after another.
 -- Assumes nothing.
 use mathlib.Core.Path.{◌≡◌, refl, sym, ap, ◌∙◌}
-use mathlib.Core.Bool.{Bool, true, false, true≢false, cond, ◌&&◌}
-use mathlib.Core.List.{List, [], ◌∷◌, ◌++◌}
+use mathlib.Core.Bool.{Bool, true, false, cond}
+use mathlib.Core.List.{List, [], ◌∷◌, ◌++◌, map}
+use denote.Ref.{Bor}
 use Prim.Native.Nat.{ℕ, suc, ◌+◌, ◌≤◌, ◌<◌}
 use native.Mathlib.Omega.{arith}
-use native.Mathlib.Nat.{le_antisymm}
 use native.Mathlib.Numerals.{add-one}
 use lib.Dec.{eqb, leb}
 use lib.ListN.{length, take, drop, get_or, set, length-set, drop_of_length-le, get_or-map, get_or-append}
-use lib.Seq.{length-take-le, drop-cons, take-suc-set, get_or-take}
-use borrow.Author.Tests.{eq-eqb, eqb-true, leb-true}
+use lib.Seq.{length-take-le, drop-cons, take-suc-set}
+use borrow.Author.Tests.{leb-true}
+use lib.Pointwise.{pointwise}
+use Rattle.std.proofs.Common.{Ok, Err, nat_eq}
+use Rattle.std.proofs.lemmas.Bool.Decides.{same_from_decides, Decides-eqb}
+use Rattle.std.proofs.lemmas.Slice.Eq.{slice_eq-Decides, compares_Decides}
 use Rattle.lists.proofs.Entries.{tested_get_d}
 use Rattle.notation.specs.declared.Fault.{Fault}
 use Rattle.notation.specs.declared.Fault.TheVariants.{TooManyWords, StartMissing}
-use Rattle.notation.specs.declared.numerals.Value.{Value}
-use Rattle.notation.specs.declared.numerals.Value.TheVariants.{Of, Wrong}
-use Rattle.notation.specs.declared.forms.Name.{Name}
-use Rattle.notation.specs.declared.forms.Form.{Form}
+use Rattle.notation.specs.declared.Kind.{Kind}
+use Rattle.notation.specs.declared.Kind.TheVariants.{Start}
 use Rattle.notation.specs.declared.words.Span.{Span}
 use Rattle.notation.specs.Words.{words, part, NextWord}
+use Rattle.notation.specs.Inner.{counted}
 use Rattle.notation.specs.Forms.{names, start, name_of, kinds, same, find, operand, Sense, numbers, wrong, with, next, missing, operands}
-use Rattle.notation.specs.Inner.{NameOf, FormOf, counted}
 
--- the code's tables
-abbrev name : ℕ → List ℕ → Name
-name n letters = record { len = n; letters = letters }
+-- a word and the name of a number are the same, by the code's test of the name's bytes
+pub same_told : (r : Bool) (word read name : List ℕ) → r ≡ pointwise nat_eq word read → read ≡ name → r ≡ same word name
+same_told r word read name e f =
+    let h : r ≡ pointwise nat_eq word name = rw f at e in
+    same_from_decides r (same word name) (slice_eq-Decides Decides-eqb word name r h) (compares_Decides same (record { empty = refl; shorter = λ y ys. refl; longer = λ x xs. refl; heads = λ x y xs ys. refl }) word name)
 
-abbrev pub name_table : List Name
-name_table =
-    name 6 (108 ∷ 111 ∷ 111 ∷ 107 ∷ 117 ∷ 112 ∷ 0 ∷ 0 ∷ 0 ∷ [])
-    ∷ name 6 (105 ∷ 110 ∷ 115 ∷ 101 ∷ 114 ∷ 116 ∷ 0 ∷ 0 ∷ 0 ∷ [])
-    ∷ name 6 (114 ∷ 101 ∷ 109 ∷ 111 ∷ 118 ∷ 101 ∷ 0 ∷ 0 ∷ 0 ∷ [])
-    ∷ name 9 (104 ∷ 97 ∷ 110 ∷ 100 ∷ 45 ∷ 111 ∷ 118 ∷ 101 ∷ 114 ∷ [])
-    ∷ name 4 (99 ∷ 101 ∷ 105 ∷ 108 ∷ 0 ∷ 0 ∷ 0 ∷ 0 ∷ 0 ∷ [])
-    ∷ name 5 (102 ∷ 108 ∷ 111 ∷ 111 ∷ 114 ∷ 0 ∷ 0 ∷ 0 ∷ 0 ∷ [])
-    ∷ name 4 (115 ∷ 117 ∷ 99 ∷ 99 ∷ 0 ∷ 0 ∷ 0 ∷ 0 ∷ 0 ∷ [])
-    ∷ name 4 (112 ∷ 114 ∷ 101 ∷ 100 ∷ 0 ∷ 0 ∷ 0 ∷ 0 ∷ 0 ∷ [])
-    ∷ name 4 (102 ∷ 97 ∷ 115 ∷ 116 ∷ 0 ∷ 0 ∷ 0 ∷ 0 ∷ 0 ∷ [])
-    ∷ name 4 (111 ∷ 112 ∷ 101 ∷ 110 ∷ 0 ∷ 0 ∷ 0 ∷ 0 ∷ 0 ∷ [])
-    ∷ name 4 (115 ∷ 116 ∷ 101 ∷ 112 ∷ 0 ∷ 0 ∷ 0 ∷ 0 ∷ 0 ∷ [])
-    ∷ name 5 (99 ∷ 108 ∷ 111 ∷ 115 ∷ 101 ∷ 0 ∷ 0 ∷ 0 ∷ 0 ∷ [])
-    ∷ name 5 (115 ∷ 119 ∷ 101 ∷ 101 ∷ 112 ∷ 0 ∷ 0 ∷ 0 ∷ 0 ∷ [])
-    ∷ name 5 (116 ∷ 97 ∷ 108 ∷ 108 ∷ 121 ∷ 0 ∷ 0 ∷ 0 ∷ 0 ∷ [])
-    ∷ name 8 (99 ∷ 97 ∷ 112 ∷ 97 ∷ 99 ∷ 105 ∷ 116 ∷ 121 ∷ 0 ∷ [])
-    ∷ name 5 (115 ∷ 116 ∷ 97 ∷ 114 ∷ 116 ∷ 0 ∷ 0 ∷ 0 ∷ 0 ∷ [])
-    ∷ []
-
-abbrev form : ℕ → List ℕ → Form
-form n ks = record { count = n; kinds = ks }
-
-abbrev pub form_table : List Form
-form_table =
-    form 1 (0 ∷ 0 ∷ 0 ∷ [])
-    ∷ form 3 (0 ∷ 0 ∷ 1 ∷ [])
-    ∷ form 1 (0 ∷ 0 ∷ 0 ∷ [])
-    ∷ form 1 (2 ∷ 0 ∷ 0 ∷ [])
-    ∷ form 1 (0 ∷ 0 ∷ 0 ∷ [])
-    ∷ form 1 (0 ∷ 0 ∷ 0 ∷ [])
-    ∷ form 1 (0 ∷ 0 ∷ 0 ∷ [])
-    ∷ form 1 (0 ∷ 0 ∷ 0 ∷ [])
-    ∷ form 2 (0 ∷ 0 ∷ 0 ∷ [])
-    ∷ form 2 (0 ∷ 0 ∷ 0 ∷ [])
-    ∷ form 2 (2 ∷ 2 ∷ 0 ∷ [])
-    ∷ form 1 (2 ∷ 0 ∷ 0 ∷ [])
-    ∷ form 0 (0 ∷ 0 ∷ 0 ∷ [])
-    ∷ form 0 (0 ∷ 0 ∷ 0 ∷ [])
-    ∷ form 3 (2 ∷ 3 ∷ 2 ∷ [])
-    ∷ []
-
--- LAW: the tables, tested as a whole, have each name and what stands behind it
-pub name_at : (number : ℕ) → NameOf number (get_or name_table number (name 0 []))
-unfolding name_of names start
-name_at number = record {
-  short = leb-true _ 9 (tested_get_d (λ r. leb r.len 9) (name 0 []) name_table refl refl number);
-  inside = leb-true _ _ (tested_get_d (λ r. leb r.len (length r.letters)) (name 0 []) name_table refl refl number);
-  is = sym (get_or-map (λ (r : Name). take r.len r.letters) name_table number (name 0 []));
-}
-
-pub form_at : (code : ℕ) → FormOf code (get_or form_table code (form 0 []))
-unfolding kinds
-form_at code = record {
-  few = leb-true _ 3 (tested_get_d (λ r. leb r.count 3) (form 0 []) form_table refl refl code);
-  inside = leb-true _ _ (tested_get_d (λ r. leb r.count (length r.kinds)) (form 0 []) form_table refl refl code);
-  is = sym (get_or-map (λ (r : Form). take r.count r.kinds) form_table code (form 0 []));
-}
-
--- two words that are the same are equal, and the other way round
-pub same_self : (w : List ℕ) → same w w ≡ true
-same_self [] = refl
-same_self (b ∷ w) = rw (eq-eqb b b refl) (same_self w)
-
-same_equal : (v w : List ℕ) → same v w ≡ true → v ≡ w
-same_equal [] [] e = refl
-same_equal [] (c ∷ w) e = absurd (true≢false (sym e))
-same_equal (b ∷ v) [] e = absurd (true≢false (sym e))
-same_equal (b ∷ v) (c ∷ w) e = go (eqb b c) refl e (same_equal v w)
-  where
-    go : (t : Bool) → eqb b c ≡ t → (t && same v w) ≡ true → (same v w ≡ true → v ≡ w) → b ∷ v ≡ c ∷ w
-    go true f q r = let h = eqb-true b c f in let i = r q in cc
-    go false f q r = absurd (true≢false (sym q))
-
--- LAW: an answer that says whether they are equal
-pub same_told : (r : Bool) (v w : List ℕ) → (r ≡ true → v ≡ w) → (v ≡ w → r ≡ true) → r ≡ same v w
-same_told true v w f g = rw (f refl) (sym (same_self w))
-same_told false v w f g = go (same v w) refl
-  where
-    go : (t : Bool) → same v w ≡ t → false ≡ same v w
-    go true e = absurd (true≢false (sym (g (same_equal v w e))))
-    go false e = sym e
+-- an entry of a table of texts, as the code reads it
+pub read_at : {X : Type 0} (table : List (Bor X)) (i : ℕ) (d : Bor X) (xs : List X) → map (λ r. r.now) table ≡ xs → (get_or table i d).now ≡ get_or xs i d.now
+read_at {X} table i d xs e = rw (← e) (sym (get_or-map (λ (r : Bor X). r.now) table i d))
 
 -- how many names there are, and where each stands
 pub names_length : length names ≡ 15
@@ -138,10 +63,10 @@ module _ (word : List ℕ) (code : ℕ) where
   find_none h = rw (drop_of_length-le names {i = code} (rw names_length h))
 
 -- the word `start` where it must stand, and another
-pub operand_start : (r : Bool) (word : List ℕ) → r ≡ same word (name_of 15) → r ≡ true → Of 0 ≡ cond (same word start) (Of 0) (Wrong StartMissing)
+pub operand_start : (r : Bool) (word : List ℕ) → r ≡ same word (name_of 15) → r ≡ true → Ok 0 ≡ operand Start word
 operand_start r word e t = let q : same word start ≡ true = sym (ap (same word) name_of_start) ∙ sym e ∙ t in rw q
 
-pub operand_other : (r : Bool) (word : List ℕ) → r ≡ same word (name_of 15) → r ≡ false → Wrong StartMissing ≡ cond (same word start) (Of 0) (Wrong StartMissing)
+pub operand_other : (r : Bool) (word : List ℕ) → r ≡ same word (name_of 15) → r ≡ false → Err StartMissing ≡ operand Start word
 operand_other r word e t = let q : same word start ≡ false = sym (ap (same word) name_of_start) ∙ sym e ∙ t in rw q
 
 -- numbers in front
@@ -162,12 +87,12 @@ prefixed_numbers [] = refl
 prefixed_numbers (n ∷ ns) = rw (prefixed_numbers ns)
 
 -- the words behind a name, of which the first i were found: what is left of them, and what they say together
-pub record Found (ks : List ℕ) (line : List ℕ) (at : ℕ) (found : List ℕ) (place i : ℕ) : Type 0 where
+pub record Found (ks : List Kind) (line : List ℕ) (at : ℕ) (found : List ℕ) (place i : ℕ) : Type 0 where
   pub inside : place ≤ length line
   pub few : i ≤ length found
   pub says : operands ks (words (drop at line)) ≡ prefixed (take i found) (operands (drop i ks) (words (drop place line)))
 
-module _ {ks line found : List ℕ} {at place i : ℕ} (f : Found ks line at found place i) (r : Span) (w : NextWord line place r) (code : ℕ) where
+module _ {ks : List Kind} {line found : List ℕ} {at place i : ℕ} (f : Found ks line at found place i) (r : Span) (w : NextWord line place r) (d : Kind) (code : ℕ) where
   -- a fault behind the words found is that of the word behind them and the name
   fault_here : (fault : Fault) (number : ℕ) → operands (drop i ks) (words (drop place line)) ≡ wrong fault 0 → number ≡ i + 1
       → wrong fault number ≡ with code (operands ks (words (drop at line)))
@@ -176,15 +101,15 @@ module _ {ks line found : List ℕ} {at place i : ℕ} (f : Found ks line at fou
       rw (s, n, add-one)
 
   -- no word is left
-  pub found_missing : i < length ks → r.start ≡ r.end → (fault : Fault) → fault ≡ missing (get_or ks i 0) → wrong fault (i + 1) ≡ with code (operands ks (words (drop at line)))
-  found_missing h e fault m = fault_here fault (i + 1) (rw (drop-cons ks i 0 h, w.none e) (ap (λ x. wrong x 0) (sym m))) refl
+  pub found_missing : i < length ks → r.start ≡ r.end → (fault : Fault) → fault ≡ missing (get_or ks i d) → wrong fault (i + 1) ≡ with code (operands ks (words (drop at line)))
+  found_missing h e fault m = fault_here fault (i + 1) (rw (drop-cons ks i d h, w.none e) (ap (λ x. wrong x 0) (sym m))) refl
 
   -- the next word
   at_word : i < length ks → r.start < r.end
-      → operands (drop i ks) (words (drop place line)) ≡ next (operand (get_or ks i 0) (part r.start r.end line)) (operands (drop (suc i) ks) (words (drop r.end line)))
-  at_word h e = rw (drop-cons ks i 0 h, w.some e)
+      → operands (drop i ks) (words (drop place line)) ≡ next (operand (get_or ks i d) (part r.start r.end line)) (operands (drop (suc i) ks) (words (drop r.end line)))
+  at_word h e = rw (drop-cons ks i d h, w.some e)
 
-  pub found_wrong : i < length ks → r.start < r.end → (fault : Fault) → operand (get_or ks i 0) (part r.start r.end line) ≡ Wrong fault
+  pub found_wrong : i < length ks → r.start < r.end → (fault : Fault) → operand (get_or ks i d) (part r.start r.end line) ≡ Err fault
       → wrong fault (i + 1) ≡ with code (operands ks (words (drop at line)))
   found_wrong h e fault o = fault_here fault (i + 1) (at_word h e ∙ rw o) refl
 
@@ -197,43 +122,32 @@ module _ {ks line found : List ℕ} {at place i : ℕ} (f : Found ks line at fou
       let s : operands ks (words (drop at line)) ≡ numbers (take i found) = f.says ∙ rw (drop_of_length-le ks h, w.none e) (prefixed_numbers (take i found)) in
       rw s
 
-module _ {ks line found : List ℕ} {at place i : ℕ} (f : Found ks line at found place i) (r : Span) (w : NextWord line place r) where
-  pub found_next : i < length ks → i < length found → r.start < r.end → (n : ℕ) → operand (get_or ks i 0) (part r.start r.end line) ≡ Of n
+module _ {ks : List Kind} {line found : List ℕ} {at place i : ℕ} (f : Found ks line at found place i) (r : Span) (w : NextWord line place r) (d : Kind) where
+  pub found_next : i < length ks → i < length found → r.start < r.end → (n : ℕ) → operand (get_or ks i d) (part r.start r.end line) ≡ Ok n
       → Found ks line at (set found i n) r.end (i + 1)
   found_next h l e n o = record {
     inside = w.inside;
     few = simp length-set (omega arith);
-    says = f.says ∙ ap (prefixed (take i found)) (at_word f r w 0 h e) ∙ rw (o, add-one, take-suc-set found i n l) (sym (prefixed_snoc (take i found) n _));
+    says = f.says ∙ ap (prefixed (take i found)) (at_word f r w d 0 h e) ∙ rw (o, add-one, take-suc-set found i n l) (sym (prefixed_snoc (take i found) n _));
   }
 
+-- no more than three words stand behind a name, and no name has more than nine bytes
+pub kinds_few : (code : ℕ) → length (get_or kinds code []) ≤ 3
+unfolding kinds
+kinds_few code = leb-true _ 3 (tested_get_d (λ ks. leb (length ks) 3) [] kinds refl refl code)
+
+pub name_short : (number : ℕ) → length (name_of number) ≤ 9
+unfolding name_of names start
+name_short number = leb-true _ 9 (tested_get_d (λ name. leb (length name) 9) [] (names ++ (start ∷ [])) refl refl number)
+
 -- an array of three, element by element
-three : (found : List ℕ) → length found ≡ 3 → get_or found 0 0 ∷ get_or found 1 0 ∷ get_or found 2 0 ∷ [] ≡ found
+pub three : (found : List ℕ) → length found ≡ 3 → get_or found 0 0 ∷ get_or found 1 0 ∷ get_or found 2 0 ∷ [] ≡ found
 three [] e = absurd (omega arith)
 three (a ∷ []) e = absurd (omega arith)
 three (a ∷ b ∷ []) e = absurd (omega arith)
 three (a ∷ b ∷ c ∷ []) e = refl
 three (a ∷ b ∷ c ∷ d ∷ found) e = absurd (omega arith)
 
--- the kinds of an array of which the first count
-module _ (code : ℕ) (r : Form) (o : FormOf code r) (i : ℕ) where
-  kinds_length : length (take r.count r.kinds) ≡ r.count
-  kinds_length = length-take-le r.count r.kinds o.inside
-
-  pub kinds_left : i < r.count → i < length (take r.count r.kinds)
-  kinds_left h = rw kinds_length h
-
-  pub kinds_over : r.count ≤ i → length (take r.count r.kinds) ≤ i
-  kinds_over h = rw kinds_length h
-
-  pub kind_at : i < r.count → get_or (take r.count r.kinds) i 0 ≡ get_or r.kinds i 0
-  kind_at h = get_or-take r.count r.kinds i 0 h
-
-  pub operand_at : (word : List ℕ) {v w : Value} → i < r.count → v ≡ operand (get_or r.kinds i 0) word → v ≡ w → operand (get_or (take r.count r.kinds) i 0) word ≡ w
-  operand_at word h e f = rw (kind_at h) (sym e ∙ f)
-
-  -- the first numbers of an array of three
-  pub counted_all : (found : List ℕ) → length found ≡ 3 → i ≤ r.count → r.count ≤ i
-      → counted code (record { first = get_or found 0 0; second = get_or found 1 0; third = get_or found 2 0 }) ≡ take i found
-  counted_all found l h k =
-      let e : length (get_or kinds code []) ≡ i = ap length (sym o.is) ∙ kinds_length ∙ le_antisymm k h in
-      rw (e, three found l)
+-- the numbers found, as many as stand behind the name
+pub counted_all : (code i : ℕ) (ks : List Kind) (found : List ℕ) → ks ≡ get_or kinds code [] → i ≡ length ks → length found ≡ 3 → counted code found ≡ take i found
+counted_all code i ks found e h l = rw (three found l, ← e, h)

@@ -12,7 +12,7 @@ use mir.Syntax.{w64}
 use mir.Val.{SFits, to_z, of_z}
 use mir.ValLaws.{to_z-of_z}
 use Rattle.lists.specs.Buffers.{written}
-use Rattle.groups.specs.declared.Wrote.TheVariants.{Length}
+use Rattle.std.proofs.Common.{Ok}
 use Rattle.groups.specs.Buffers.{Writes}
 use Rattle.groups.proofs.Writing.{writes_whole}
 use Rattle.listing.specs.Decimals.{digits, integer}
@@ -53,12 +53,8 @@ line_end word zs h p q k = rw (← append_assoc word (spaced zs) (10 ∷ [])) (p
 pub handed : (z : ℤ) → mag z < 9223372036854775808 → to_z w64 (of_z w64 z) ≡ z
 handed z f = to_z-of_z w64 z (record { sfits = f })
 
--- a text that is another
-pub put_as : {out text other last : List ℕ} {at m next : ℕ} → Put out at m text last next → text ≡ other → Put out at m other last next
-put_as p e = rw e at p
-
 -- LAW: a text that is put at the front of a buffer is written there
-pub put_writes : {before after text : List ℕ} {r : ℕ} → length text ≤ length before → Put before 0 (length text) text after r → Writes text before after (Length r)
+pub put_writes : {before after text : List ℕ} {r : ℕ} → length text ≤ length before → Put before 0 (length text) text after r → Writes text before after (Ok r)
 unfolding written
 put_writes {before} {after} {text} {r} h p =
     let e : 0 + length text ≡ length text = omega arith in

@@ -14,10 +14,10 @@ use borrow.Author.Tests.{ne_eqb, le-leb, lt-ltb, not-true}
 use Rattle.lists.specs.Holds.{All}
 use Rattle.lists.specs.Filters.{empty, head_or}
 use Rattle.lists.proofs.Holding.{every, all_tested, all_imp}
-use Rattle.groups.specs.declared.Wrote.TheVariants.{Length}
 use Rattle.groups.specs.Buffers.{Writes}
 use Rattle.groups.specs.Signs.{turned}
 use Rattle.groups.proofs.Writing.{writes_length}
+use Rattle.std.proofs.Common.{Result, Ok, Err}
 use Rattle.listing.specs.Decimals.{Digit, digits, integer}
 use Rattle.listing.specs.Lines.{spaced, line_after}
 use Rattle.listing.proofs.Digits.{digits_some, digits_decimal}
@@ -27,7 +27,9 @@ use Rattle.transactions.specs.declared.Call.TheVariants.{Lookup, Insert, Remove,
 use Rattle.transactions.specs.Calls.{any, small, numbers_of, Typed, TypedHeader}
 use Rattle.transactions.proofs.Calling.{numbers_same, header_same}
 use Rattle.notation.specs.declared.Line.{Line}
-use Rattle.notation.specs.declared.numerals.Value.TheVariants.{Of}
+use Rattle.notation.specs.declared.Kind.{Kind}
+use Rattle.notation.specs.declared.Kind.TheVariants.{Key, Coin, Small}
+use Rattle.notation.specs.declared.Misread.{Misread}
 use Rattle.notation.specs.Words.{blank, pieces, remark, words}
 use Rattle.notation.specs.Numerals.{all_digits, integer_of, value_as, digits_value, number}
 use Rattle.notation.specs.Forms.{names, start, name_of, kinds, find, numbers, formed, sense, sense_of}
@@ -87,36 +89,36 @@ digits_tested : (s : List ℕ) → All Digit s → all_digits s ≡ true
 digits_tested [] a = refl
 digits_tested (b ∷ s) a = rw (le-leb 48 b a.0.0, le-leb b 57 a.0.1) (digits_tested s a.1)
 
-digits_number : (s : Bool) (k n : ℕ) → digits_value s k (digits n) ≡ value_as k (integer_of s n)
+digits_number : (s : Bool) (k : Kind) (n : ℕ) → digits_value s k (digits n) ≡ value_as k (integer_of s n)
 digits_number s k n =
     let d = digits_decimal n in
     digits_right s k (digits n) (digits_some n) (digits_tested (digits n) d.only) ∙ ap (λ m. value_as k (integer_of s m)) d.worth
 
-no_sign : (k : ℕ) (s : List ℕ) → All Digit s → number k s ≡ digits_value false k s
+no_sign : (k : Kind) (s : List ℕ) → All Digit s → number k s ≡ digits_value false k s
 unfolding number
 no_sign k [] a = refl
 no_sign k (b ∷ s) a = rw (ne_eqb b 45 (λ e. omega (arith, a.0.0)))
 
-number_natural : (k n : ℕ) → number k (integer (pos n)) ≡ value_as k (pos n)
+number_natural : (k : Kind) (n : ℕ) → number k (integer (pos n)) ≡ value_as k (pos n)
 unfolding integer
 number_natural k n = no_sign k (digits n) (digits_decimal n).only ∙ digits_number false k n
 
-number_minus : (k n : ℕ) → number k (integer (negsuc n)) ≡ value_as k (negsuc n)
+number_minus : (k : Kind) (n : ℕ) → number k (integer (negsuc n)) ≡ value_as k (negsuc n)
 unfolding number integer
 number_minus k n = digits_number true k (suc n)
 
-number_integer : (k : ℕ) (z : ℤ) → number k (integer z) ≡ value_as k z
+number_integer : (k : Kind) (z : ℤ) → number k (integer z) ≡ value_as k z
 number_integer k (pos n) = number_natural k n
 number_integer k (negsuc n) = number_minus k n
 
-key_read : (z : ℤ) → SFits w64 z → number 0 (integer z) ≡ Of (turned z)
-key_read z f = number_integer 0 z ∙ rw (lt-ltb _ (2 ^ 63) f.sfits)
+key_read : (z : ℤ) → SFits w64 z → number Key (integer z) ≡ Ok (turned z)
+key_read z f = number_integer Key z ∙ rw (lt-ltb _ (2 ^ 63) f.sfits)
 
-coin_read : (n : ℕ) → n ≤ any → number 1 (integer (pos n)) ≡ Of n
-coin_read n h = number_natural 1 n ∙ rw (le-leb n any h)
+coin_read : (n : ℕ) → n ≤ any → number Coin (integer (pos n)) ≡ Ok n
+coin_read n h = number_natural Coin n ∙ rw (le-leb n any h)
 
-small_read : (n : ℕ) → n ≤ small → number 2 (integer (pos n)) ≡ Of n
-small_read n h = number_natural 2 n ∙ rw (le-leb n small h)
+small_read : (n : ℕ) → n ≤ small → number Small (integer (pos n)) ≡ Ok n
+small_read n h = number_natural Small n ∙ rw (le-leb n small h)
 
 -- a line that begins with a name
 named : (code : ℕ) (zs : List ℤ) → Solid (name_of code) → find names (name_of code) ≡ code
@@ -163,7 +165,7 @@ header_words header =
     ∙ ap {B = List (List ℕ)} (λ r. name_of 14 ∷ integer z ∷ r) (words_line start (pos header.start.0 ∷ []) start_solid)
 
 -- LAW: the text of a header says the header
-pub header_sense : (header : Header) → TypedHeader header → sense (words (header_text header)) ≡ sense_of (Line.Header header)
+pub header_sense : (header : Header) → TypedHeader header → sense (words (header_text header)) ≡ sense_of (Ok (Line.Header header))
 unfolding name_of names start kinds sense
 header_sense header t =
     ap sense (header_words header) ∙ rw (small_read header.capacity (omega (arith, t.0)), small_read header.start.0 (omega (arith, t.1)))
@@ -189,37 +191,37 @@ no_header : (call : Call) (ns : List ℕ) → numbers (numbers_of call) ≡ numb
 no_header call ns e = let q : numbers_of call ≡ 14 ∷ ns = cc in let h = ap (λ l. head_or l 0) q in omega (arith, code_below call)
 
 -- LAW: two answers that say the same are equal
-pub line_same : (a b : Line) → sense_of a ≡ sense_of b → a ≡ b
-line_same Line.Nothing Line.Nothing e = refl
-line_same Line.Nothing (Line.Header h) e = absurd (let z : ◌≡◌ {A = ℕ} 0 1 = cc in omega arith)
-line_same Line.Nothing (Line.Call c) e = absurd (let z : ◌≡◌ {A = ℕ} 0 1 = cc in omega arith)
-line_same Line.Nothing (Line.Fault f n) e = absurd (let z : ◌≡◌ {A = ℕ} 0 1 = cc in omega arith)
-line_same (Line.Header g) Line.Nothing e = absurd (let z : ◌≡◌ {A = ℕ} 0 1 = cc in omega arith)
-line_same (Line.Header g) (Line.Header h) e =
+pub line_same : (a b : Result Line Misread) → sense_of a ≡ sense_of b → a ≡ b
+line_same (Ok Line.Nothing) (Ok Line.Nothing) e = refl
+line_same (Ok Line.Nothing) (Ok (Line.Header h)) e = absurd (let z : ◌≡◌ {A = ℕ} 0 1 = cc in omega arith)
+line_same (Ok Line.Nothing) (Ok (Line.Call c)) e = absurd (let z : ◌≡◌ {A = ℕ} 0 1 = cc in omega arith)
+line_same (Ok Line.Nothing) (Err m) e = absurd (let z : ◌≡◌ {A = ℕ} 0 1 = cc in omega arith)
+line_same (Ok (Line.Header g)) (Ok Line.Nothing) e = absurd (let z : ◌≡◌ {A = ℕ} 0 1 = cc in omega arith)
+line_same (Ok (Line.Header g)) (Ok (Line.Header h)) e =
     let q : g.capacity ≡ h.capacity = cc in
     let r : g.start.0 ≡ h.start.0 = cc in
-    ap Line.Header (header_same g h (rw (q, r)))
-line_same (Line.Header g) (Line.Call c) e = absurd (no_header c _ (sym e))
-line_same (Line.Header g) (Line.Fault f n) e = absurd (let z : ◌≡◌ {A = ℕ} 0 1 = cc in omega arith)
-line_same (Line.Call c) Line.Nothing e = absurd (let z : ◌≡◌ {A = ℕ} 0 1 = cc in omega arith)
-line_same (Line.Call c) (Line.Header h) e = absurd (no_header c _ e)
-line_same (Line.Call c) (Line.Call d) e = let q : numbers_of c ≡ numbers_of d = cc in ap Line.Call (numbers_same c d q)
-line_same (Line.Call c) (Line.Fault f n) e = absurd (let z : ◌≡◌ {A = ℕ} 0 1 = cc in omega arith)
-line_same (Line.Fault f n) Line.Nothing e = absurd (let z : ◌≡◌ {A = ℕ} 0 1 = cc in omega arith)
-line_same (Line.Fault f n) (Line.Header h) e = absurd (let z : ◌≡◌ {A = ℕ} 0 1 = cc in omega arith)
-line_same (Line.Fault f n) (Line.Call c) e = absurd (let z : ◌≡◌ {A = ℕ} 0 1 = cc in omega arith)
-line_same (Line.Fault f n) (Line.Fault g m) e = let q : f ≡ g = cc in let p : n ≡ m = cc in ap₂ Line.Fault q p
+    ap (λ x. Ok (Line.Header x)) (header_same g h (rw (q, r)))
+line_same (Ok (Line.Header g)) (Ok (Line.Call c)) e = absurd (no_header c _ (sym e))
+line_same (Ok (Line.Header g)) (Err m) e = absurd (let z : ◌≡◌ {A = ℕ} 0 1 = cc in omega arith)
+line_same (Ok (Line.Call c)) (Ok Line.Nothing) e = absurd (let z : ◌≡◌ {A = ℕ} 0 1 = cc in omega arith)
+line_same (Ok (Line.Call c)) (Ok (Line.Header h)) e = absurd (no_header c _ e)
+line_same (Ok (Line.Call c)) (Ok (Line.Call d)) e = let q : numbers_of c ≡ numbers_of d = cc in ap (λ x. Ok (Line.Call x)) (numbers_same c d q)
+line_same (Ok (Line.Call c)) (Err m) e = absurd (let z : ◌≡◌ {A = ℕ} 0 1 = cc in omega arith)
+line_same (Err m) (Ok Line.Nothing) e = absurd (let z : ◌≡◌ {A = ℕ} 0 1 = cc in omega arith)
+line_same (Err m) (Ok (Line.Header h)) e = absurd (let z : ◌≡◌ {A = ℕ} 0 1 = cc in omega arith)
+line_same (Err m) (Ok (Line.Call c)) e = absurd (let z : ◌≡◌ {A = ℕ} 0 1 = cc in omega arith)
+line_same (Err m) (Err n) e = let q : m.fault ≡ n.fault = cc in let p : m.word ≡ n.word = cc in ap₂ {C = Result Line Misread} (λ f w. Err (record { fault = f; word = w })) q p
 
 -- what a writer wrote stands at the front
-written_front : {text before after : List ℕ} {len : ℕ} → Writes text before after (Length len) → take len after ≡ text
+written_front : {text before after : List ℕ} {len : ℕ} → Writes text before after (Ok len) → take len after ≡ text
 written_front {text} {before} {after} {len} w = let v = writes_length w in ap (take len) v.buffer ∙ take_at text (drop (length text) before) len (sym v.answer)
 
 -- LAW: what write_call wrote, read_line reads: the same call
-pub read_write_call : (call : Call) → Typed call → {before after : List ℕ} {len : ℕ} → Writes (text_of call) before after (Length len)
-    → (r : Line) → sense_of r ≡ sense (words (take len after)) → r ≡ Line.Call call
-read_write_call call t w r e = line_same r (Line.Call call) (e ∙ ap (λ s. sense (words s)) (written_front w) ∙ call_sense call t)
+pub read_write_call : (call : Call) → Typed call → {before after : List ℕ} {len : ℕ} → Writes (text_of call) before after (Ok len)
+    → (r : Result Line Misread) → sense_of r ≡ sense (words (take len after)) → r ≡ Ok (Line.Call call)
+read_write_call call t w r e = line_same r (Ok (Line.Call call)) (e ∙ ap (λ s. sense (words s)) (written_front w) ∙ call_sense call t)
 
 -- LAW: the same of a header
-pub read_write_header : (header : Header) → TypedHeader header → {before after : List ℕ} {len : ℕ} → Writes (header_text header) before after (Length len)
-    → (r : Line) → sense_of r ≡ sense (words (take len after)) → r ≡ Line.Header header
-read_write_header header t w r e = line_same r (Line.Header header) (e ∙ ap (λ s. sense (words s)) (written_front w) ∙ header_sense header t)
+pub read_write_header : (header : Header) → TypedHeader header → {before after : List ℕ} {len : ℕ} → Writes (header_text header) before after (Ok len)
+    → (r : Result Line Misread) → sense_of r ≡ sense (words (take len after)) → r ≡ Ok (Line.Header header)
+read_write_header header t w r e = line_same r (Ok (Line.Header header)) (e ∙ ap (λ s. sense (words s)) (written_front w) ∙ header_sense header t)

@@ -7,13 +7,12 @@ use Prim.Native.Nat.{ℕ, suc, ◌+◌, ◌-◌, ◌≤◌, ◌<◌}
 use native.Mathlib.Omega.{arith}
 use native.Mathlib.Decide.{dec_lt}
 use native.Mathlib.Numerals.{add-one}
-use native.Mathlib.Nat.{add-zero}
 use borrow.Author.Tests.{not-true, not-false, eq-eqb, ne_eqb, eqb-true}
-use lib.ListN.{length, take, drop, get_or, drop_of_length-le, length-drop, get_or-eq_default}
-use lib.Seq.{drop-cons, drop-drop, get_or-drop}
+use lib.ListN.{length, take, drop, get_or, drop_of_length-le}
+use lib.Seq.{drop-cons, drop-drop}
 use Rattle.lists.specs.Filters.{filter, empty}
 use Rattle.notation.specs.declared.words.Span.{Span}
-use Rattle.notation.specs.Words.{blank, pieces, remark, unremarked, words, run_of, word_run, part, NextWord, WordAt}
+use Rattle.notation.specs.Words.{blank, pieces, remark, unremarked, words, run_of, word_run, part, NextWord}
 
 -- a run at a place, by what the code's test of the byte there answers: it ends there, it goes on, or the line ends
 module _ (blanks : Bool) (line : List ℕ) (i : ℕ) where
@@ -130,30 +129,24 @@ module _ (line : List ℕ) (at start end : ℕ) (e : start ≡ at + run_of true 
     some = λ q. words_behind ∙ first_there q;
   }
 
--- the word that the code finds at a place: a run of bytes, which a `#` in front makes empty
-module _ (line : List ℕ) (start end : ℕ) (f : end ≡ start + run_of false (drop start line)) (l : end ≤ length line) where
-  pub run_empty : end ≤ start → end ≡ start + word_run (drop start line)
-  run_empty q = go (remark (drop start line))
+-- the word that the code finds at a place: none where a `#` stands there, else the run of bytes
+module _ (line : List ℕ) (start : ℕ) where
+  pub run_remark : start < length line → get_or line start 0 ≡ 35 → start ≡ start + word_run (drop start line)
+  run_remark h n = rw (drop-cons line start 0 h, eq-eqb (get_or line start 0) 35 n) (omega arith)
+
+  pub run_word : (end : ℕ) → (start < length line → get_or line start 0 ≡ 35 → ⊥) → end ≡ start + run_of false (drop start line) → end ≡ start + word_run (drop start line)
+  run_word end n f = go (dec_lt start (length line))
     where
-      go : (m : Bool) → end ≡ start + cond m 0 (run_of false (drop start line))
-      go true = omega arith
-      go false = f
-
-  pub run_remark : start < end → get_or line start 0 ≡ 35 → start ≡ start + word_run (drop start line)
-  run_remark q n = rw (drop-cons line start 0 (omega arith), eq-eqb (get_or line start 0) 35 n) (omega arith)
-
-  pub run_word : start < end → (get_or line start 0 ≡ 35 → ⊥) → end ≡ start + word_run (drop start line)
-  run_word q n =
-      let m : remark (drop start line) ≡ false = rw (drop-cons line start 0 (omega arith)) (ne_eqb (get_or line start 0) 35 n) in
-      rw m f
+      go : Dec (start < length line) → end ≡ start + word_run (drop start line)
+      go (yes h) =
+          let m : remark (drop start line) ≡ false = rw (drop-cons line start 0 h) (ne_eqb (get_or line start 0) 35 (n h)) in
+          rw m f
+      go (no h) = let e : drop start line ≡ [] = drop_of_length-le line (omega arith) in rw e (rw e at f)
 
 -- so many words are passed: what is left of them stands behind the place
 pub record Passed (line : List ℕ) (place count : ℕ) : Type 0 where
   pub inside : place ≤ length line
   pub left : words (drop place line) ≡ drop count (words line)
-
-pub passed_none : (line : List ℕ) → Passed line 0 0
-passed_none line = record { inside = omega arith; left = refl }
 
 module _ {line : List ℕ} {place count : ℕ} (p : Passed line place count) (r : Span) (w : NextWord line place r) where
   -- one word more
@@ -161,27 +154,4 @@ module _ {line : List ℕ} {place count : ℕ} (p : Passed line place count) (r 
   passed_next h = record {
     inside = w.inside;
     left = ap {A = List (List ℕ)} (drop 1) (sym (w.some h) ∙ p.left) ∙ drop-drop 1 count (words line);
-  }
-
-  -- the word there, and its absence
-  at_count : (number : ℕ) → number ≡ count → get_or (words line) number [] ≡ get_or (words (drop place line)) 0 []
-  at_count number e = rw e (ap (λ k. get_or (words line) k []) (sym (add-zero count)) ∙ sym (get_or-drop count (words line) 0 []) ∙ ap (λ (ws : List (List ℕ)). get_or ws 0 []) (sym p.left))
-
-  none_part : r.start ≡ r.end → part r.start r.end line ≡ []
-  none_part e = let k : r.end - r.start ≡ 0 = omega arith in rw k
-
-  -- LAW: the next word behind the words passed is the word with their number
-  pub passed_word : (number : ℕ) → number ≡ count → WordAt line number r
-  passed_word number e = record { order = w.order; inside = w.inside; is = go (dec_lt r.start r.end) }
-    where
-      go : Dec (r.start < r.end) → part r.start r.end line ≡ get_or (words line) number []
-      go (yes h) = sym (at_count number e ∙ rw (w.some h))
-      go (no h) = let q : r.start ≡ r.end = omega (arith, w.order, h) in none_part q ∙ sym (at_count number e ∙ rw (w.none q))
-
-  -- LAW: where no word is left, there is none with a greater number
-  pub passed_over : (number : ℕ) → count ≤ number → r.start ≡ r.end → WordAt line number r
-  passed_over number h e = record {
-    order = w.order;
-    inside = w.inside;
-    is = none_part e ∙ sym (get_or-eq_default (words line) [] {n = number} (omega (arith, h, length-drop count (words line), ap {B = ℕ} length (sym p.left ∙ w.none e))));
   }

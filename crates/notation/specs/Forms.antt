@@ -1,12 +1,13 @@
 -- The forms of a line: a name, and what must stand behind it.
 -- Assumes nothing.
-use Rattle.std.specs.Prelude.{Bool, true, false, cond, ◌&&◌, List, [], ◌∷◌, ◌++◌, ℕ, suc, eqb, get_or}
+use Rattle.std.specs.Prelude.{Bool, true, false, cond, ◌&&◌, List, [], ◌∷◌, ◌++◌, ℕ, suc, eqb, get_or, Result, Ok, Err}
 use Rattle.transactions.specs.Calls.{numbers_of}
 use Rattle.notation.specs.declared.Fault.{Fault}
 use Rattle.notation.specs.declared.Fault.TheVariants.{UnknownWord, NumberMissing, TooManyWords, StartMissing}
+use Rattle.notation.specs.declared.Kind.{Kind}
+use Rattle.notation.specs.declared.Kind.TheVariants.{Key, Coin, Small, Start}
 use Rattle.notation.specs.declared.Line.{Line}
-use Rattle.notation.specs.declared.numerals.Value.{Value}
-use Rattle.notation.specs.declared.numerals.Value.TheVariants.{Of, Wrong}
+use Rattle.notation.specs.declared.Misread.{Misread}
 use Rattle.notation.specs.Numerals.{number}
 
 -- the names by code, then that of the header:
@@ -38,37 +39,24 @@ start = 115 ∷ 116 ∷ 97 ∷ 114 ∷ 116 ∷ []
 unfoldable pub name_of : ℕ → List ℕ
 name_of number = get_or (names ++ (start ∷ [])) number []
 
--- the kinds of words behind a name, as numbers
-abbrev key : ℕ
-key = 0
-
-abbrev coin : ℕ
-coin = 1
-
-abbrev below32 : ℕ
-below32 = 2
-
-abbrev start_word : ℕ
-start_word = 3
-
 -- what must stand behind each name
-unfoldable pub kinds : List (List ℕ)
+unfoldable pub kinds : List (List Kind)
 kinds =
-    (key ∷ [])
-    ∷ (key ∷ key ∷ coin ∷ [])
-    ∷ (key ∷ [])
-    ∷ (below32 ∷ [])
-    ∷ (key ∷ [])
-    ∷ (key ∷ [])
-    ∷ (key ∷ [])
-    ∷ (key ∷ [])
-    ∷ (key ∷ key ∷ [])
-    ∷ (key ∷ key ∷ [])
-    ∷ (below32 ∷ below32 ∷ [])
-    ∷ (below32 ∷ [])
+    (Key ∷ [])
+    ∷ (Key ∷ Key ∷ Coin ∷ [])
+    ∷ (Key ∷ [])
+    ∷ (Small ∷ [])
+    ∷ (Key ∷ [])
+    ∷ (Key ∷ [])
+    ∷ (Key ∷ [])
+    ∷ (Key ∷ [])
+    ∷ (Key ∷ Key ∷ [])
+    ∷ (Key ∷ Key ∷ [])
+    ∷ (Small ∷ Small ∷ [])
+    ∷ (Small ∷ [])
     ∷ []
     ∷ []
-    ∷ (below32 ∷ start_word ∷ below32 ∷ [])
+    ∷ (Small ∷ Start ∷ Small ∷ [])
     ∷ []
 
 -- two words are the same
@@ -84,8 +72,9 @@ find [] word = 0
 find (name ∷ rest) word = cond (same word name) 0 (suc (find rest word))
 
 -- a word where one of this kind must stand; the word `start` counts as 0
-abbrev pub operand : ℕ → List ℕ → Value
-operand kind word = cond (eqb kind start_word) (cond (same word start) (Of 0) (Wrong StartMissing)) (number kind word)
+abbrev pub operand : Kind → List ℕ → Result ℕ Fault
+operand Start word = cond (same word start) (Ok 0) (Err StartMissing)
+operand kind word = number kind word
 
 -- what a line says: nothing, numbers as the schedule file has them, or why it is none and how many words stand in front of the first at fault
 pub data Sense : Type 0 where
@@ -99,20 +88,21 @@ with n nothing = nothing
 with n (numbers ns) = numbers (n ∷ ns)
 with n (wrong fault words) = wrong fault (suc words)
 
-abbrev pub next : Value → Sense → Sense
-next (Of n) rest = with n rest
-next (Wrong fault) rest = wrong fault 0
+abbrev pub next : Result ℕ Fault → Sense → Sense
+next (Ok n) rest = with n rest
+next (Err fault) rest = wrong fault 0
 
 -- no word of this kind is left
-abbrev pub missing : ℕ → Fault
-missing kind = cond (eqb kind start_word) StartMissing NumberMissing
+abbrev pub missing : Kind → Fault
+missing Start = StartMissing
+missing kind = NumberMissing
 
 -- words that must be of these kinds, tested from the left
-abbrev pub operands : List ℕ → List (List ℕ) → Sense
+abbrev pub operands : List Kind → List (List ℕ) → Sense
 operands [] [] = numbers []
 operands [] (word ∷ words) = wrong TooManyWords 0
-operands (kind ∷ kinds) [] = wrong (missing kind) 0
-operands (kind ∷ kinds) (word ∷ words) = next (operand kind word) (operands kinds words)
+operands (kind ∷ rest) [] = wrong (missing kind) 0
+operands (kind ∷ rest) (word ∷ words) = next (operand kind word) (operands rest words)
 
 -- a line whose first word has this number
 abbrev pub formed : ℕ → List (List ℕ) → Sense
@@ -124,8 +114,8 @@ sense [] = nothing
 sense (word ∷ words) = formed (find names word) words
 
 -- what an answer says: a call's numbers, its code first; a header is a form of its own, with 0 for the word `start`
-abbrev pub sense_of : Line → Sense
-sense_of Line.Nothing = nothing
-sense_of (Line.Header header) = numbers (14 ∷ header.capacity ∷ 0 ∷ header.start.0 ∷ [])
-sense_of (Line.Call call) = numbers (numbers_of call)
-sense_of (Line.Fault fault word) = wrong fault word
+abbrev pub sense_of : Result Line Misread → Sense
+sense_of (Ok Line.Nothing) = nothing
+sense_of (Ok (Line.Header header)) = numbers (14 ∷ header.capacity ∷ 0 ∷ header.start.0 ∷ [])
+sense_of (Ok (Line.Call call)) = numbers (numbers_of call)
+sense_of (Err misread) = wrong misread.fault misread.word

@@ -1,36 +1,22 @@
 -- What the inner functions say, which the public contracts do not cite.
 -- Assumes nothing.
-use Rattle.std.specs.Prelude.{ℕ, ◌≤◌, ◌≡◌, List, [], ◌∷◌, length, get_or, take}
+use Rattle.std.specs.Prelude.{ℕ, ◌≤◌, ◌≡◌, List, [], ◌∷◌, length, get_or, take, Result, Ok, Err}
 use Rattle.transactions.specs.Calls.{small}
-use Rattle.notation.specs.declared.forms.Name.{Name}
-use Rattle.notation.specs.declared.forms.Form.{Form}
-use Rattle.notation.specs.declared.forms.Three.{Three}
-use Rattle.notation.specs.declared.forms.Operands.{Operands}
-use Rattle.notation.specs.Forms.{name_of, kinds, Sense, numbers, wrong}
-
--- a name as an array of which the first letters count
-pub record NameOf (number : ℕ) (r : Name) : Type 0 where
-  pub short : r.len ≤ 9
-  pub inside : r.len ≤ length r.letters
-  pub is : take r.len r.letters ≡ name_of number
-
--- what stands behind a name, as an array of which the first kinds count
-pub record FormOf (code : ℕ) (r : Form) : Type 0 where
-  pub few : r.count ≤ 3
-  pub inside : r.count ≤ length r.kinds
-  pub is : take r.count r.kinds ≡ get_or kinds code []
+use Rattle.notation.specs.declared.Kind.{Kind}
+use Rattle.notation.specs.declared.Misread.{Misread}
+use Rattle.notation.specs.Forms.{kinds, Sense, numbers, wrong}
 
 -- the first numbers of three, as many as stand behind a name
-abbrev pub counted : ℕ → Three → List ℕ
-counted code three = take (length (get_or kinds code [])) (three.first ∷ three.second ∷ three.third ∷ [])
+abbrev pub counted : ℕ → List ℕ → List ℕ
+counted code three = take (length (get_or kinds code [])) (get_or three 0 0 ∷ get_or three 1 0 ∷ get_or three 2 0 ∷ [])
 
 -- what an answer on a name and the words behind it says
-abbrev pub operands_of : ℕ → Operands → Sense
-operands_of code (Operands.Whole three) = numbers (code ∷ counted code three)
-operands_of code (Operands.Wrong fault word) = wrong fault word
+abbrev pub operands_of : ℕ → Result (List ℕ) Misread → Sense
+operands_of code (Ok three) = numbers (code ∷ counted code three)
+operands_of code (Err misread) = wrong misread.fault misread.word
 
 -- numbers of these kinds: one below 2 ^ 32 is, and the word `start` counts as 0
-abbrev pub Ranged : List ℕ → List ℕ → Type 0
+abbrev pub Ranged : List Kind → List ℕ → Type 0
 Ranged [] ns = Unit {0}
-Ranged (kind ∷ kinds) [] = ⊥
-Ranged (kind ∷ kinds) (n ∷ ns) = (kind ≡ 2 → n ≤ small) × (kind ≡ 3 → n ≡ 0) × Ranged kinds ns
+Ranged (kind ∷ rest) [] = ⊥
+Ranged (kind ∷ rest) (n ∷ ns) = (kind ≡ Kind.Small → n ≤ small) × (kind ≡ Kind.Start → n ≡ 0) × Ranged rest ns

@@ -1,7 +1,7 @@
 -- A word as an error shows it, the byte order mark, and the byte that a fault leaves in a schedule file.
 -- Assumes nothing.
-use Rattle.std.specs.Prelude.{Bool, cond, ◌&&◌, List, [], ◌∷◌, ◌++◌, map, ℕ, ◌≤◌, leb, length, take}
-use Rattle.transactions.specs.declared.Reading.{Reading}
+use Rattle.std.specs.Prelude.{Bool, cond, ◌&&◌, List, [], ◌∷◌, ◌++◌, map, ℕ, ◌≤◌, leb, length, take, Err}
+use Rattle.transactions.specs.declared.Halt.TheVariants.{Stop}
 use Rattle.transactions.specs.Readings.{CallRead}
 use Rattle.notation.specs.Forms.{same}
 
@@ -27,4 +27,4 @@ fault_byte = 127
 
 -- a byte at which reading a call stops, at its own place, whatever stands behind it or may follow
 abbrev pub NoCall : ℕ → Type 0
-NoCall byte = (behind : List ℕ) (at : ℕ) (more : Bool) → CallRead (byte ∷ behind) at more (Reading.Stop at)
+NoCall byte = (behind : List ℕ) (at : ℕ) (more : Bool) → CallRead (byte ∷ behind) at more (Err (Stop at))

@@ -1,148 +1,78 @@
 // Decimal numbers of words, as the schedule file has them.
-ghost use Rattle.std.specs.Prelude.{◌≡◌, true, ◌≤◌, ◌<◌, length};
+ghost use Rattle.std.specs.Prelude.{◌≡◌, true};
 ghost use Rattle.listing.specs.Decimals.{worth_from};
-ghost use Rattle.notation.specs.Words.{part};
 ghost use Rattle.notation.specs.Numerals.{all_digits, worth_of, integer_of, key_value, plain_value, value_as, digits_value, number};
 
-use crate::Fault;
+use crate::{Fault, Kind};
 
-// What a word must be: a key or value, a coin, a number below 2^32, or the word `start`, which counts as 0.
-pub const KEY: u8 = 0;
-
-pub const COIN: u8 = 1;
-
-pub const SMALL: u8 = 2;
-
-pub const START: u8 = 3;
-
-// A word's number, or why it has none.
-#[derive(Clone, Copy)]
-pub enum Value {
-    Of(u64),
-    Wrong(Fault),
+// Whether each byte is a digit.
+fn all_digits(bytes: &[u8]) -> bool
+    ensures { result ≡ all_digits bytes.now }
+{
+    bytes.iter().all(|byte| byte.is_ascii_digit())
 }
 
 // What digits are worth, where that is below 2^64.
-#[derive(Clone, Copy)]
-enum Worth {
-    Of(u64),
-    Great,
-}
-
-fn wide(byte: u8) -> u64
-    ensures { result ≡ byte }
-{
-    byte as u64
-}
-
-fn all_digits(line: &[u8], start: usize, end: usize) -> bool
-    requires { end ≤ length line.now }
-    ensures { result ≡ all_digits (part start end line.now) }
-{
-    let mut i = start;
-    while i < end {
-        let byte = line[i];
-        if byte < 48 {
-            return false;
-        }
-        if 57 < byte {
-            return false;
-        }
-        i += 1;
-    }
-    true
-}
-
-// What digits are worth.
-fn worth_of(line: &[u8], start: usize, end: usize) -> Worth
-    requires { (end ≤ length line.now) × (all_digits (part start end line.now) ≡ true) }
-    ensures { result ≡ worth_of (worth_from 0 (part start end line.now)) }
+fn worth_of(digits: &[u8]) -> Option<u64>
+    requires { all_digits digits.now ≡ true }
+    ensures { result ≡ worth_of (worth_from 0 digits.now) }
 {
     let mut sum: u64 = 0;
-    let mut i = start;
-    while i < end {
-        let digit = wide(line[i]) - 48;
-        if (18446744073709551615 - digit) / 10 < sum {
-            return Worth::Great;
-        }
-        sum = sum * 10 + digit;
-        i += 1;
+    for digit in digits {
+        sum = sum.checked_mul(10)?.checked_add(u64::from(*digit - b'0'))?;
     }
-    Worth::Of(sum)
+    Some(sum)
 }
 
 // A key or value as the schedule file has it.
-fn signed(kind: u8, negative: bool, magnitude: u64) -> Value
+fn signed(kind: Kind, negative: bool, magnitude: u64) -> Result<u64, Fault>
     ensures { result ≡ key_value kind (integer_of negative magnitude) }
 {
-    if magnitude == 0 {
-        return Value::Of(0);
+    match (negative, magnitude) {
+        (true, 1..=0x8000_0000_0000_0000) => Ok((magnitude - 1) * 2 + 1),
+        (_, 0..=0x7fff_ffff_ffff_ffff) => Ok(magnitude * 2),
+        _ => Err(Fault::OutOfRange(kind)),
     }
-    if negative {
-        if 9223372036854775808 < magnitude {
-            return Value::Wrong(Fault::OutOfRange(kind));
-        }
-        return Value::Of((magnitude - 1) * 2 + 1);
-    }
-    if 9223372036854775807 < magnitude {
-        return Value::Wrong(Fault::OutOfRange(kind));
-    }
-    Value::Of(magnitude * 2)
 }
 
 // A number that is not signed, up to the greatest allowed.
-fn unsigned(kind: u8, negative: bool, magnitude: u64, most: u64) -> Value
+fn unsigned(kind: Kind, negative: bool, magnitude: u64, most: u64) -> Result<u64, Fault>
     ensures { result ≡ plain_value kind most (integer_of negative magnitude) }
 {
-    if most < magnitude {
-        return Value::Wrong(Fault::OutOfRange(kind));
+    if most < magnitude || (negative && 0 < magnitude) {
+        return Err(Fault::OutOfRange(kind));
     }
-    if negative {
-        if 0 < magnitude {
-            return Value::Wrong(Fault::OutOfRange(kind));
-        }
-    }
-    Value::Of(magnitude)
+    Ok(magnitude)
 }
 
-fn in_range(kind: u8, negative: bool, magnitude: u64) -> Value
+// A number in the range of its kind.
+fn in_range(kind: Kind, negative: bool, magnitude: u64) -> Result<u64, Fault>
     ensures { result ≡ value_as kind (integer_of negative magnitude) }
 {
-    if kind == KEY {
-        return signed(kind, negative, magnitude);
+    match kind {
+        Kind::Key => signed(kind, negative, magnitude),
+        Kind::Coin => unsigned(kind, negative, magnitude, u64::MAX),
+        Kind::Small | Kind::Start => unsigned(kind, negative, magnitude, u64::from(u32::MAX)),
     }
-    if kind == COIN {
-        return unsigned(kind, negative, magnitude, 18446744073709551615);
-    }
-    unsigned(kind, negative, magnitude, 4294967295)
 }
 
 // The number whose digits these are, behind a sign or none.
-fn read_digits(line: &[u8], start: usize, end: usize, kind: u8, negative: bool) -> Value
-    requires { (start ≤ end) × (end ≤ length line.now) }
-    ensures { result ≡ digits_value negative kind (part start end line.now) }
+fn read_digits(digits: &[u8], kind: Kind, negative: bool) -> Result<u64, Fault>
+    ensures { result ≡ digits_value negative kind digits.now }
 {
-    if start == end {
-        return Value::Wrong(Fault::NotANumber);
+    if digits.is_empty() || !all_digits(digits) {
+        return Err(Fault::NotANumber);
     }
-    if !all_digits(line, start, end) {
-        return Value::Wrong(Fault::NotANumber);
-    }
-    let found = worth_of(line, start, end);
-    match found {
-        Worth::Of(magnitude) => in_range(kind, negative, magnitude),
-        Worth::Great => Value::Wrong(Fault::OutOfRange(kind)),
-    }
+    let magnitude = worth_of(digits).ok_or(Fault::OutOfRange(kind))?;
+    in_range(kind, negative, magnitude)
 }
 
 // The number that a word is.
-pub fn read_number(line: &[u8], start: usize, end: usize, kind: u8) -> Value
-    requires { (start < end) × (end ≤ length line.now) }
-    ensures { result ≡ number kind (part start end line.now) }
+pub fn read_number(word: &[u8], kind: Kind) -> Result<u64, Fault>
+    ensures { result ≡ number kind word.now }
 {
-    if line[start] == b'-' {
-        read_digits(line, start + 1, end, kind, true)
-    } else {
-        read_digits(line, start, end, kind, false)
+    match word.strip_prefix(b"-") {
+        Some(digits) => read_digits(digits, kind, true),
+        None => read_digits(word, kind, false),
     }
 }

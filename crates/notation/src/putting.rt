@@ -1,23 +1,13 @@
 // The text of a call and of a header, put at the front of a buffer.
-ghost use Rattle.std.specs.Prelude.{◌≡◌, [], ◌∷◌, ◌<◌, pos};
-ghost use Rattle.listing.specs.Decimals.{integer};
+ghost use Rattle.std.specs.Prelude.{[], ◌∷◌, ◌<◌, pos};
 ghost use Rattle.listing.specs.Lines.{line_after};
-ghost use Rattle.listing.specs.Puts.{Room, longest, Put};
+ghost use Rattle.listing.specs.Puts.{Room, Put};
 ghost use Rattle.notation.specs.Forms.{name_of};
 ghost use Rattle.notation.specs.Texts.{text_of, header_text, longest_text};
 
 use crate::forms::put_name;
-use listing::{put_bytes, put_integer, put_natural};
+use listing::{put_bytes, put_natural, put_spaced};
 use transactions::{Call, Header};
-
-// Puts a space and an integer.
-fn put_spaced(out: &mut [u8], at: usize, n: i64) -> usize
-    requires { Room out.old at (longest 1) }
-    ensures { Put out.old at (longest 1) (32 ∷ integer n) out.new result }
-{
-    let next = put_bytes(out, at, b" ");
-    put_integer(out, next, n)
-}
 
 // Puts a line of a name alone.
 fn put_none(out: &mut [u8], code: usize) -> usize
@@ -62,13 +52,8 @@ fn put_insert(out: &mut [u8], key: i64, value: i64, coin: u64) -> usize
     put_bytes(out, end, b"\n")
 }
 
-fn wide(n: u32) -> i64
-    ensures { result ≡ pos n }
-{
-    n as i64
-}
-
 // Puts the line of a call.
+#[tactic(auto, using(crate::proofs::Texting::handed))]
 pub fn put_call(out: &mut [u8], call: Call) -> usize
     requires { Room out.old 0 longest_text }
     ensures { Put out.old 0 longest_text (text_of call) out.new result }
@@ -77,15 +62,15 @@ pub fn put_call(out: &mut [u8], call: Call) -> usize
         Call::Lookup(k) => put_one(out, 0, k),
         Call::Insert(k, v, coin) => put_insert(out, k, v, coin),
         Call::Remove(k) => put_one(out, 2, k),
-        Call::HandOver(node) => put_one(out, 3, wide(node.0)),
+        Call::HandOver(node) => put_one(out, 3, i64::from(node.0)),
         Call::Ceil(k) => put_one(out, 4, k),
         Call::Floor(k) => put_one(out, 5, k),
         Call::Succ(k) => put_one(out, 6, k),
         Call::Pred(k) => put_one(out, 7, k),
         Call::Fast(l, r) => put_two(out, 8, l, r),
         Call::Open(l, r) => put_two(out, 9, l, r),
-        Call::Step(version, room) => put_two(out, 10, wide(version.0), wide(room)),
-        Call::Close(version) => put_one(out, 11, wide(version.0)),
+        Call::Step(version, room) => put_two(out, 10, i64::from(version.0), i64::from(room)),
+        Call::Close(version) => put_one(out, 11, i64::from(version.0)),
         Call::Sweep => put_none(out, 12),
         Call::Tally => put_none(out, 13),
     }
@@ -98,8 +83,8 @@ pub fn put_header(out: &mut [u8], header: Header) -> usize
 {
     let name = put_name(out, 14);
     let start = header.start;
-    let first = put_spaced(out, name, wide(header.capacity));
+    let first = put_spaced(out, name, i64::from(header.capacity));
     let word = put_bytes(out, first, b" start");
-    let end = put_spaced(out, word, wide(start.0));
+    let end = put_spaced(out, word, i64::from(start.0));
     put_bytes(out, end, b"\n")
 }

@@ -10,20 +10,14 @@ pub struct Span {
     pub end: usize,
 }
 
+// What begins a remark.
+const REMARK: u8 = b'#';
+
 // A space, a tab, a line feed or a carriage return.
 fn is_blank(byte: u8) -> bool
     ensures { result ≡ blank byte }
 {
-    if byte == 32 {
-        return true;
-    }
-    if byte == 9 {
-        return true;
-    }
-    if byte == 10 {
-        return true;
-    }
-    byte == 13
+    matches!(byte, b' ' | b'\t' | b'\n' | b'\r')
 }
 
 // The end of the blanks, or of the bytes that are none, which stand at a place.
@@ -31,14 +25,12 @@ fn run_end(line: &[u8], at: usize, blanks: bool) -> usize
     requires { at ≤ length line.now }
     ensures { (result ≡ at + run_of blanks (drop at line.now)) × (result ≤ length line.now) }
 {
-    let mut i = at;
-    while i < line.len() {
+    for i in at..line.len() {
         if is_blank(line[i]) != blanks {
             return i;
         }
-        i += 1;
     }
-    i
+    line.len()
 }
 
 // The next word from a place on, empty where there is none or a remark begins.
@@ -47,13 +39,10 @@ pub fn next_word(line: &[u8], at: usize) -> Span
     ensures { NextWord line.now at result }
 {
     let start = run_end(line, at, true);
-    let end = run_end(line, start, false);
-    if start == end {
-        return Span { start, end };
-    }
-    if line[start] == b'#' {
+    if start < line.len() && line[start] == REMARK {
         return Span { start, end: start };
     }
+    let end = run_end(line, start, false);
     Span { start, end }
 }
 
@@ -62,16 +51,12 @@ pub fn word_at(line: &[u8], number: usize) -> Span
     ensures { WordAt line.now number result }
 {
     let mut place = 0;
-    let mut i = 0;
-    while i < number {
+    for _ in 0..number {
         let word = next_word(line, place);
-        let start = word.start;
-        let end = word.end;
-        if start == end {
-            return Span { start, end };
+        if word.start == word.end {
+            return word;
         }
-        place = end;
-        i += 1;
+        place = word.end;
     }
     next_word(line, place)
 }

@@ -130,7 +130,8 @@ fn seated(rows: &[u32], cap: u32, which: Column, p: u32, seat: u32) -> bool
     n < cap && cell(rows, n, Column::Place) == p && cell(rows, n, Column::Seat) == seat
 }
 
-// The same for the k entries of a ring from the front on. A stack is a ring whose front is 0.
+// The same for the k entries of a ring from the front on. A stack is a ring whose front is 0. Inlined, so that the column is known in the loop.
+#[inline(always)]
 fn all_seated(rows: &[u32], cap: u32, which: Column, p: u32, front: u32, k: u32) -> bool
     requires { Sized rows.now cap × (number_of which < 32) × (front < cap) × (k ≤ cap) }
     ensures { Says result (Seats (column rows.now (number_of which)) (places rows.now) (seats rows.now) cap p k (slot cap front)) }

@@ -97,35 +97,27 @@ fn walk_range(
 {
     let cap = keys.len() as u32;
     let mut m = rest;
-    let mut i: usize = 0;
+    let mut count: usize = 0;
     while m < cap {
-        if !may_rest(rows, m, version) {
-            m = levels::link(rows, 0, Direction::After, m);
-            continue;
+        if may_rest(rows, m, version) {
+            let at = m as usize;
+            let key = keys[at];
+            let finished = high < key;
+            if finished || room <= count {
+                return Walked {
+                    count,
+                    finished,
+                    rest: m,
+                };
+            }
+            out_keys[count] = sizes::unrank(key);
+            out_values[count] = values[at];
+            count += 1;
         }
-        let at = m as usize;
-        let key = keys[at];
-        if high < key {
-            return Walked {
-                count: i,
-                finished: true,
-                rest: m,
-            };
-        }
-        if room <= i {
-            return Walked {
-                count: i,
-                finished: false,
-                rest: m,
-            };
-        }
-        out_keys[i] = sizes::unrank(key);
-        out_values[i] = values[at];
-        i += 1;
         m = levels::link(rows, 0, Direction::After, m);
     }
     Walked {
-        count: i,
+        count,
         finished: true,
         rest: cap + 1,
     }

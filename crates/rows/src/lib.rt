@@ -36,13 +36,6 @@ pub const IS_PENDING: u32 = 2;
 
 pub const IS_RETIRED: u32 = 3;
 
-// The number as an index.
-pub fn wide(x: u32) -> usize
-    ensures { result ≡ x }
-{
-    x as usize
-}
-
 // Where the link of the row n on the level l in the direction d stands, of c rows: first the links after on level 0 alone, which a walk of the lowest level reads.
 #[tactic(auto, unfolding(crate::specs::Rows::address))]
 fn link_address(c: usize, n: usize, l: usize, d: Direction) -> usize

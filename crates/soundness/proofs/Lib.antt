@@ -1,4 +1,3 @@
-pub mod Versions
 pub mod Walking
 pub mod Tickets
 pub mod Ringing

@@ -1,15 +1,15 @@
 -- The ring of retired nodes, by the index of a node in it, and the lists in it.
 -- Assumes nothing.
 use mathlib.Core.Path.{◌≡◌, sym, ap, ◌∙◌}
-use mathlib.Core.Bool.{Bool, true, false}
-use mathlib.Core.List.{List, [], ◌∷◌}
-use Prim.Native.Nat.{ℕ, suc, ◌+◌, ◌-◌, ◌<◌, ◌≤◌}
+use mathlib.Core.Bool.{Bool}
+use mathlib.Core.List.{List}
+use Prim.Native.Nat.{ℕ, ◌+◌, ◌-◌, ◌<◌, ◌≤◌}
 use native.Mathlib.Omega.{arith}
-use lib.ListN.{length, get_or, take, drop, length-drop, drop_of_length-le}
-use lib.Seq.{get_or-drop, drop-cons, drop-drop}
+use lib.ListN.{length, get_or, take, drop, length-drop}
+use lib.Seq.{get_or-drop, drop-cons}
 use Rattle.lists.specs.Holds.{All}
 use Rattle.lists.specs.Tests.{Says, Each}
-use Rattle.lists.proofs.Answers.{over, failed, passed}
+use Rattle.lists.proofs.Answers.{over}
 use Rattle.lists.proofs.Indexing.{each_all, all_each, tab_at}
 use Rattle.rows.specs.Rows.{rings}
 use Rattle.places.specs.Places.{Places, ring_front, ring_count, ring_of, queued, slot}
@@ -55,50 +55,9 @@ list_says P rows cap start size l =
 
 -- ---- all the lists
 
--- the test stands before the list of this size that starts there, and before the i-th ticket: the ring is so listed exactly when what is left of it is
-pub record Listing (removal : ℕ → ℕ) (ring : List ℕ) (due : ℕ) (tickets : List Ticket) (start size i : ℕ) : Type 0 where
-  pub within : start ≤ length ring
-  pub back : Listed removal (drop start ring) size (drop i tickets) → Listed removal ring due tickets
-  pub forth : Listed removal ring due tickets → Listed removal (drop start ring) size (drop i tickets)
-
-module _ (removal : ℕ → ℕ) (ring : List ℕ) (due : ℕ) (tickets : List Ticket) where
-  pub listing_start : Listing removal ring due tickets 0 due 0
-  listing_start = record { within = omega arith; back = λ h. h; forth = λ h. h }
-
-  module _ (start size i : ℕ) (w : Listing removal ring due tickets start size i) where
-    module _ (l : i < length tickets) where
-      next : drop i tickets ≡ ticket_at tickets i ∷ drop (suc i) tickets
-      next = drop-cons tickets i no_ticket l
-
-      here : Listed removal ring due tickets → (size ≤ length ring - start) × All (λ m. removal m < (ticket_at tickets i).version.0) (take size (drop start ring))
-      here h = let p = rw next at (w.forth h) in (omega (arith, p.0, length-drop start ring), p.1)
-
-      -- what the lists have here
-      pub listing_room : Listed removal ring due tickets → size ≤ length ring - start
-      listing_room h = (here h).0
-
-      module _ {r : Bool} (s : Says r (All (λ m. removal m < (ticket_at tickets i).version.0) (take size (drop start ring)))) where
-        pub listing_bad : r ≡ false → Listed removal ring due tickets → ⊥
-        listing_bad e h = failed s e (here h).1
-
-        -- LAW: one list further
-        pub listing_on : r ≡ true → size ≤ length ring - start → Listing removal ring due tickets (start + size) (ticket_at tickets i).held (i + 1)
-        listing_on f l' =
-            let e : i + 1 ≡ suc i = omega arith in
-            rw e
-            (record {
-              within = omega (arith, w.within);
-              back = λ h. w.back (rw next (omega (arith, length-drop start ring), passed s f, rw (drop-drop size start ring) h));
-              forth = λ h. let p = rw next at (w.forth h) in rw (drop-drop size start ring) at p.2;
-            })
-
-    -- LAW: at the end the last list is what is left of the ring
-    module _ (l : length tickets ≤ i) where
-      ended : drop i tickets ≡ []
-      ended = drop_of_length-le tickets l
-
-      pub listed_all : size ≡ length ring - start → Listed removal ring due tickets
-      listed_all e = w.back (rw ended (e ∙ sym (length-drop start ring)))
-
-      pub listed_last : Listed removal ring due tickets → size ≡ length ring - start
-      listed_last h = let p : size ≡ length (drop start ring) = rw ended at (w.forth h) in p ∙ length-drop start ring
+-- LAW: where the rest of the ring is listed by the tickets from the i-th on, there is room for the list of this size, and its nodes were removed before the i-th
+pub listed_here : (removal : ℕ → ℕ) (ring : List ℕ) (tickets : List Ticket) (start size i : ℕ) → i < length tickets → Listed removal (drop start ring) size (drop i tickets)
+    → (size ≤ length ring - start) × All (λ m. removal m < (ticket_at tickets i).version.0) (take size (drop start ring))
+listed_here removal ring tickets start size i l h =
+    let p = rw (drop-cons tickets i no_ticket) at h in
+    (omega (arith, p.0, length-drop start ring), p.1)

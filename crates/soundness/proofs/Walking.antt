@@ -2,13 +2,14 @@
 -- Assumes nothing.
 use mathlib.Core.Path.{◌≡◌, refl, sym, ap, ◌∙◌}
 use mathlib.Core.Logic.{inr, ⊎_elim}
-use mathlib.Core.Bool.{Bool, true, false, cond}
+use mathlib.Core.Bool.{Bool, true, false}
 use mathlib.Core.List.{List, [], ◌∷◌, ◌++◌, append_assoc}
 use Prim.Native.Nat.{ℕ, ◌≤◌, ◌<◌, ◌+◌}
 use native.Mathlib.Omega.{arith}
 use native.Mathlib.Decide.{dec_lt}
 use lib.ListN.{length}
-use Rattle.lists.specs.Filters.{filter}
+use Rattle.std.specs.Int.{from_bool}
+use Rattle.lists.specs.Filters.{filter, keep}
 use Rattle.lists.specs.Members.{Split}
 use Rattle.lists.proofs.Splits.{in_split, pigeon}
 use Rattle.lists.proofs.Indexing.{pairwise_next}
@@ -67,6 +68,16 @@ module _ (keys rows : List ℕ) where
   line_less : (counter n : ℕ) (ns : List ℕ) → Line keys rows counter (n ∷ ns) → Line keys rows counter ns
   line_less counter n ns r = record { timed = r.timed.1; ordered = r.ordered.1 }
 
+-- ---- what counts as one where a test holds
+
+kept : (b : Bool) (n : ℕ) (ns : List ℕ) → from_bool b + length ns ≡ length (keep b n ns)
+kept true n ns = omega arith
+kept false n ns = omega arith
+
+pub one_at_most : (b : Bool) → from_bool b ≤ 1
+one_at_most true = omega arith
+one_at_most false = omega arith
+
 -- ---- the walk
 
 -- it stands before n, having met so many nodes and so many retired ones: the whole level is a line exactly when what lies onward is
@@ -117,23 +128,14 @@ module _ (keys rows : List ℕ) (cap counter : ℕ) where
       pub walking_next : Line keys rows counter (order_of rows cap) → next < cap → Ordered keys rows n next
       walking_next r = line_next keys rows cap counter n next rest (begins rows cap next) (ahead r)
 
-      one_more : (b : Bool) → is_retired rows n ≡ b → cond b (retired + 1) retired + length (filter (is_retired rows) rest) ≡ retired + length (filter (is_retired rows) (n ∷ rest))
-      one_more true e = rw e (omega arith)
-      one_more false e = rw e
-
-      fewer_still : (b : Bool) → cond b (retired + 1) retired ≤ linked + 1
-      fewer_still true = omega (arith, w.fewer)
-      fewer_still false = omega (arith, w.fewer)
-
       -- LAW: one node further
-      pub walking_on : (b : Bool) → is_retired rows n ≡ b → Timed rows counter n → (next < cap → Ordered keys rows n next)
-          → Walking keys rows cap counter next (linked + 1) (cond b (retired + 1) retired)
-      walking_on b e t o =
+      pub walking_on : Timed rows counter n → (next < cap → Ordered keys rows n next) → Walking keys rows cap counter next (linked + 1) (retired + from_bool (is_retired rows n))
+      walking_on t o =
           record {
             stand = walk_on rows cap 0 n w.stand l;
             met = omega (arith, w.met, ap length opened);
-            old = one_more b e ∙ (ap (λ r. retired + length (filter (is_retired rows) r)) (sym opened) ∙ w.old);
-            fewer = fewer_still b;
+            old = omega (arith, kept (is_retired rows n) n (filter (is_retired rows) rest), ap (λ r. length (filter (is_retired rows) r)) opened, w.old);
+            fewer = omega (arith, w.fewer, one_at_most (is_retired rows n));
             back = λ r. w.back (rw opened (line_more keys rows cap counter n next rest (begins rows cap next) t o r));
             forth = λ r. line_less keys rows counter n rest (ahead r);
           }

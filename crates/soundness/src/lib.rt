@@ -53,10 +53,10 @@ fn node_ok(rows: &[u32], n: u32, counter: Version) -> bool
     ensures { Says result (Timed rows.now counter.0 n) }
 {
     let place = cell(rows, n, Column::Place);
-    if place == IS_FREE || place > IS_RETIRED || inserted(rows, n).0 > counter.0 {
+    if place == IS_FREE || place > IS_RETIRED || inserted(rows, n) > counter {
         return false;
     }
-    place == IS_PRESENT || removed(rows, n).0 <= counter.0
+    place == IS_PRESENT || removed(rows, n) <= counter
 }
 
 // Whether the key of n goes before that of the next node, if there is one.
@@ -70,10 +70,9 @@ fn order_ok(keys: &[u64], rows: &[u32], cap: u32, n: u32, next: u32) -> bool
     let key = keys[n as usize];
     let later = keys[next as usize];
     if cell(rows, n, Column::Place) == IS_PRESENT {
-        key < later
-    } else {
-        key <= later
+        return key < later;
     }
+    key <= later
 }
 
 // Whether the nodes of the lowest level are in use, in time and in order, are all that are not free, and include as many retired ones as the ring. One walk.
@@ -92,9 +91,7 @@ fn nodes_ok(keys: &[u64], rows: &[u32], cap: u32, counter: Version) -> bool
         if !order_ok(keys, rows, cap, n, next) {
             return false;
         }
-        if cell(rows, n, Column::Place) == IS_RETIRED {
-            retired += 1;
-        }
+        retired += u32::from(cell(rows, n, Column::Place) == IS_RETIRED);
         linked += 1;
         n = next;
     }
@@ -111,10 +108,10 @@ fn rest_ok(keys: &[u64], rows: &[u32], cap: u32, ticket: Ticket) -> bool
         return n == cap + 1;
     }
     let place = cell(rows, n, Column::Place);
-    if place == IS_FREE || ticket.version.0 <= inserted(rows, n).0 || keys[n as usize] < ticket.low {
+    if place == IS_FREE || ticket.version <= inserted(rows, n) || keys[n as usize] < ticket.low {
         return false;
     }
-    place == IS_PRESENT || ticket.version.0 <= removed(rows, n).0
+    place == IS_PRESENT || ticket.version <= removed(rows, n)
 }
 
 // Whether the open tickets stand in the order of their versions, none above the counter, and each rests where it may.
@@ -123,10 +120,10 @@ fn tickets_ok(keys: &[u64], rows: &[u32], cap: u32, tickets: &[Ticket], counter:
     ensures { Says result (Opened keys.now rows.now cap counter.0 tickets.now) }
 {
     for (i, ticket) in tickets.iter().enumerate() {
-        if ticket.version.0 > counter.0 || !rest_ok(keys, rows, cap, *ticket) {
+        if ticket.version > counter || !rest_ok(keys, rows, cap, *ticket) {
             return false;
         }
-        if i > 0 && ticket.version.0 <= tickets[i - 1].version.0 {
+        if i > 0 && ticket.version <= tickets[i - 1].version {
             return false;
         }
     }
@@ -152,7 +149,7 @@ fn gone_ok(rows: &[u32], cap: u32, start: u32, size: u32, version: Version) -> b
     ensures { Says result (All (λ n. removals rows.now n < version.0) (take size (drop start (ring_of rows.now cap)))) }
 {
     for i in start..start + size {
-        if version.0 <= removed(rows, ring_node(rows, cap, i)).0 {
+        if version <= removed(rows, ring_node(rows, cap, i)) {
             return false;
         }
     }

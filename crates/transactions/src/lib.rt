@@ -17,14 +17,14 @@ const ANY: u64 = u64::MAX;
 const SMALL: u64 = u32::MAX as u64;
 
 // The capacity and the start version.
-#[derive(Clone, Copy)]
+#[derive(Clone, Copy, Debug, PartialEq, Eq)]
 pub struct Header {
     pub capacity: u32,
     pub start: Version,
 }
 
 // The calls, in the order of their codes.
-#[derive(Clone, Copy)]
+#[derive(Clone, Copy, Debug, PartialEq, Eq)]
 pub enum Call {
     Lookup(i64),
     Insert(i64, i64, u64),

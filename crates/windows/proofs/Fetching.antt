@@ -1,44 +1,39 @@
 -- A read behind what is held, after that was moved to the front.
 -- Assumes nothing.
-use mathlib.Core.Path.{◌≡◌, sym, ap, ◌∙◌}
-use mathlib.Core.List.{List, ◌++◌}
-use Prim.Native.Nat.{ℕ, ◌+◌, ◌-◌, ◌^◌, ◌≤◌, ◌<◌}
-use native.Mathlib.Omega.{arith}
-use lib.Dec.{ltb}
-use lib.ListN.{length, take, drop, length-drop}
-use lib.Seq.{length-take-le, take-add}
-use borrow.Rule.Slice.PartMut.{put_mid, take_put}
+use Rattle.std.proofs.Common.{◌≡◌, sym, ap, ◌∙◌, List, ◌++◌, ℕ, ◌+◌, ◌-◌, ◌^◌, ◌≤◌, ◌<◌, ltb, length, take, drop, arith, length-drop}
+use lib.Seq.{length-take-le, take-append-le, take-append-add, drop-append_seam}
 use Rattle.windows.specs.declared.Window.{Window}
 use Rattle.windows.specs.Windows.{count_of, held_in, Readable, Fetches}
 
--- the window after a read of so many bytes
-abbrev pub widened : Window → ℕ → Window
-widened w n = record { from = 0; to = count_of w + n; read = w.read + n; more = ltb 0 n }
+-- the window after a read of so many bytes behind so many
+abbrev pub widened : ℕ → ℕ → ℕ → Window
+widened k n r = record { from = 0; to = k + n; read = r; more = ltb 0 n }
 
--- what was held comes first, and then so many bytes
-fetched_front : (w : Window) (b b' : List ℕ) (n : ℕ) → Readable w (length b) → length b' ≡ length b → take (count_of w) b' ≡ held_in w b
-    → count_of w + n ≤ length b → w.read + n < 2 ^ 64 → Fetches w b (widened w n) b'
-fetched_front w b b' n h l e f r =
-    let a = h.held.order in
-    let i = h.held.inside in
-    let c = h.held.counted in
-    let d = length-drop (count_of w) b' in
-    let k : length (take n (drop (count_of w) b')) ≡ n = length-take-le n (drop (count_of w) b') (omega arith) in
-    let s : count_of w + n - 0 ≡ count_of w + n = omega arith in
-    record {
-      got = take n (drop (count_of w) b');
-      room = h.room;
-      held = record { order = omega arith; inside = f; counted = omega arith; known = r };
-      place = omega arith;
-      bytes = rw s (take-add (count_of w) n b' ∙ ap (λ x. x ++ take n (drop (count_of w) b')) e);
-      read = omega arith;
-      more = ap (ltb 0) (sym k);
-    }
+module _ {w : Window} {k n : ℕ} (b b₁ got behind : List ℕ) (e : k ≡ count_of w) (h : Readable w (length b)) (l : length b₁ ≡ length b) (f : take k b₁ ≡ held_in w b) (i : n ≤ length got) where
+  front_length : length (take k b₁) ≡ k
+  front_length = length-take-le k b₁ (omega (arith, h.room))
 
--- LAW: what was held comes first, whatever was read behind it
-pub fetched : (w : Window) (b₀ b₁ got : List ℕ) (n : ℕ) → Readable w (length b₀) → length b₁ ≡ length b₀ → take (count_of w) b₁ ≡ held_in w b₀
-    → length (put_mid (count_of w) (length b₁ - count_of w) b₁ got) ≡ length b₀ → count_of w + n ≤ length b₀ → w.read + n < 2 ^ 64
-    → Fetches w b₀ (widened w n) (put_mid (count_of w) (length b₁ - count_of w) b₁ got)
-fetched w b₀ b₁ got n h l e m f r =
-    let x : count_of w ≤ length b₁ = omega (arith, h.room) in
-    fetched_front w b₀ (put_mid (count_of w) (length b₁ - count_of w) b₁ got) n h m (take_put (count_of w) (length b₁ - count_of w) b₁ got x ∙ e) f r
+  read_front : (r : ℕ) → held_in (widened k n r) (take k b₁ ++ (got ++ behind)) ≡ take k b₁ ++ take n got
+  read_front r =
+      let t : k + n - 0 ≡ length (take k b₁) + n = omega (arith, front_length) in
+      rw (t, take-append-add (take k b₁) (got ++ behind) n, take-append-le n got behind i)
+
+  -- LAW: what was held comes first, whatever was read behind it
+  pub fetched : {r : ℕ} → length got ≡ length (take (length b₁ - k) (drop k b₁)) → r ≡ w.read + n → r < 2 ^ 64 → Fetches w b (widened k n r) (take k b₁ ++ (got ++ behind))
+  fetched {r} g s v =
+      let t : length (take n got) ≡ n = length-take-le n got i in
+      let d = length-drop k b₁ in
+      let m : k + n ≤ length b = omega (arith, h.room, length-take-le (length b₁ - k) (drop k b₁) (omega arith)) in
+      record {
+        got = take n got;
+        room = h.room;
+        held = record { order = omega arith; inside = m; counted = omega (arith, h.held.order, h.held.counted); known = v };
+        place = omega (arith, h.held.order, h.held.counted);
+        bytes = read_front r ∙ ap (λ x. x ++ take n got) f;
+        read = omega arith;
+        more = ap (ltb 0) (sym t);
+      }
+
+  -- LAW: behind what was held are the bytes that were read
+  pub came : (r : ℕ) → drop (count_of w) (held_in (widened k n r) (take k b₁ ++ (got ++ behind))) ≡ take n got
+  came r = rw (read_front r, ← e) (rw front_length at (drop-append_seam (take k b₁) (take n got)))

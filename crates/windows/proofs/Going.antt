@@ -2,11 +2,12 @@
 -- Assumes nothing.
 use mathlib.Core.Path.{◌≡◌, refl, sym, ap, ap₂, ◌∙◌}
 use mathlib.Core.Bool.{Bool, true, false, cond}
-use mathlib.Core.List.{List, [], ◌∷◌}
-use Prim.Native.Nat.{ℕ, zero, suc, ◌+◌, ◌-◌, ◌*◌, ◌^◌, ◌≤◌, ◌<◌, min}
+use mathlib.Core.List.{List}
+use Prim.Native.Nat.{ℕ, ◌+◌, ◌-◌, ◌*◌, ◌^◌, ◌≤◌, ◌<◌, min}
 use native.Mathlib.Omega.{arith}
 use lib.ListN.{length, take, drop, length-drop}
-use lib.Seq.{length-take-le, take-nil, drop-drop}
+use lib.Seq.{length-take-le, drop-drop}
+use Rattle.std.proofs.lemmas.List.{drop-take}
 use borrow.Author.Tests.{ltb-true, ltb-false}
 use Rattle.windows.specs.declared.Window.{Window}
 use Rattle.windows.specs.Windows.{Held, count_of, held_in, place_of, behind, Fetches, left_of}
@@ -14,12 +15,6 @@ use Rattle.windows.specs.Windows.{Held, count_of, held_in, place_of, behind, Fet
 -- LAW: as many bytes are held as the window says
 pub held_length : (w : Window) (b : List ℕ) → Held w (length b) → length (held_in w b) ≡ count_of w
 held_length w b h = let d = length-drop w.from b in length-take-le (count_of w) (drop w.from b) (omega (arith, h.order, h.inside))
-
--- the rest of a front is a front of the rest
-drop_take : {A : Type 0} (k n : ℕ) (l : List A) → drop k (take (k + n) l) ≡ take n (drop k l)
-drop_take zero n l = let e : 0 + n ≡ n = omega arith in rw e
-drop_take (suc k) n [] = let e : suc k + n ≡ suc (k + n) = omega arith in rw e (sym (take-nil n))
-drop_take (suc k) n (x ∷ l) = let e : suc k + n ≡ suc (k + n) = omega arith in rw e (drop_take k n l)
 
 -- ---- behind some bytes
 
@@ -43,7 +38,7 @@ module _ {w : Window} {n k : ℕ} (h : Held w n) (i : k ≤ count_of w) where
       let g : (behind w k).from ≡ w.from + k = omega (arith, h.order) in
       let f : k + (count_of w - k) ≡ count_of w = omega arith in
       ap₂ (λ (m : ℕ) (l : List ℕ). take m l) e (ap (λ m. drop m b) g ∙ sym (drop-drop k w.from b))
-      ∙ (sym (drop_take k (count_of w - k) (drop w.from b)) ∙ ap (λ m. drop k (take m (drop w.from b))) f)
+      ∙ (sym (drop-take k (count_of w - k) (drop w.from b)) ∙ ap (λ m. drop k (take m (drop w.from b))) f)
 
   -- LAW: as much less is left
   pub behind_left : left_of (behind w k) + k ≡ left_of w

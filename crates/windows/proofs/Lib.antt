@@ -1,3 +1,2 @@
-pub mod Moving
 pub mod Fetching
 pub mod Going

@@ -1,8 +1,9 @@
--- What a program holds of standard input: a part of a buffer.
+-- What a program holds of its input: a part of a buffer.
 -- Assumes nothing.
-use Rattle.std.specs.Prelude.{◌≡◌, true, cond, List, ◌++◌, ℕ, ◌+◌, ◌-◌, ◌*◌, ◌^◌, ◌≤◌, ◌<◌, min, ltb, length, take, drop}
+use Rattle.std.specs.Prelude.{◌≡◌, true, false, cond, List, ◌++◌, ℕ, ◌+◌, ◌-◌, ◌*◌, ◌^◌, ◌≤◌, ◌<◌, min, ltb, length, take, drop, Option, Result, Ok, Err}
+use Rattle.std.specs.Io.KnownBytes.{Keeps, Consumes, IsAtEnd}
 use Rattle.windows.specs.declared.Window.{Window}
-use Rattle.windows.specs.declared.Fetched.{Fetched}
+use Rattle.windows.specs.declared.FetchError.{FetchError}
 
 -- nothing was read yet
 abbrev pub unread : Window
@@ -46,9 +47,15 @@ pub record Fetches (w : Window) (buffer : List ℕ) (w' : Window) (buffer' : Lis
   pub more : w'.more ≡ ltb 0 (length got)
 
 -- or it failed
-abbrev pub FetchedBy : Window → List ℕ → List ℕ → Fetched → Type 0
-FetchedBy w buffer buffer' (Fetched.Held w') = Fetches w buffer w' buffer'
-FetchedBy w buffer buffer' Fetched.Failed = Unit {0}
+abbrev pub FetchedBy : Window → List ℕ → List ℕ → Result Window FetchError → Type 0
+FetchedBy w buffer buffer' (Ok w') = Fetches w buffer w' buffer'
+FetchedBy w buffer buffer' (Err _) = Unit {0}
+
+-- of a reader whose bytes are known: those read are its first, and where none were it has no more; one that failed, or was not asked, has them all
+abbrev pub CameBy : Window → Option (List ℕ) → Option (List ℕ) → List ℕ → Result Window FetchError → Type 0
+CameBy w known known' buffer' (Ok w') = Consumes known known' (drop (count_of w) (held_in w' buffer')) × (w'.more ≡ false → IsAtEnd known')
+CameBy w known known' buffer' (Err FetchError.TooLong) = Unit {0}
+CameBy w known known' buffer' (Err _) = Keeps known known'
 
 -- a number that falls with each byte used, with each read, and once more where the input has ended: bytes that may still be read count twice
 abbrev pub left_of : Window → ℕ

@@ -10,7 +10,7 @@ use Rattle.calls.proofs.Entering.{refused_by, making}
 use Rattle.calls.proofs.fast_range.Goals as goal
 
 pub returns-in_err-tested : goal.returns-in_err-tested
-returns-in_err-tested c = refused_by c.tested.ensures.says c.tested.ensures.refusal c.in_err-tested.was
+returns-in_err-tested c = refused_by c.tested.ensures.says c.tested.ensures.refusal c.in_err-tested.was c.from_residual.ensures.1
 
 pub fast_range-requires : goal.fast_range-requires
 fast_range-requires c = fast_ready (lent c.args.keys.now c.args.values.now c.args.rows.now c.args.buckets.now c.args.tickets.now c.args.coordinator) (passed c.tested.ensures.says (ap is_ok c.in_ok-tested.was))

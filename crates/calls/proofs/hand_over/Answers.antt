@@ -10,7 +10,7 @@ use Rattle.calls.proofs.Entering.{refused_by, making}
 use Rattle.calls.proofs.hand_over.Goals as goal
 
 pub returns-in_err-tested : goal.returns-in_err-tested
-returns-in_err-tested c = refused_by c.tested.ensures.says c.tested.ensures.refusal c.in_err-tested.was
+returns-in_err-tested c = refused_by c.tested.ensures.says c.tested.ensures.refusal c.in_err-tested.was c.from_residual.ensures.1
 
 pub overflow_cast-keys : goal.overflow_cast-keys
 overflow_cast-keys c = omega (arith, (sound_capacity (lent c.args.keys.now c.args.values.now c.args.rows.now c.args.buckets.now c.args.tickets.now c.args.coordinator) (passed c.tested.ensures.says (ap is_ok c.in_ok-tested.was))).most)

@@ -1,42 +1,35 @@
 -- `notation::read_line` meets its contract.
-use mathlib.Core.Path.{sym, ap, ◌∙◌}
-use native.Mathlib.Omega.{arith}
-use Rattle.notation.specs.Inner.{operands_of}
-use Rattle.notation.proofs.Sensing.{ranged, sense_none, sense_unknown, sense_form, uncoded}
-use Rattle.notation.specs.Forms.{kinds, operands}
+use mathlib.Core.Path.{refl, sym, ◌∙◌}
 use mathlib.Core.List.{[]}
+use native.Mathlib.Omega.{arith}
 use lib.ListN.{get_or, drop}
+use Rattle.std.proofs.lemmas.Result.{err_from_is_err_and}
+use Rattle.notation.specs.Forms.{kinds, operands}
 use Rattle.notation.specs.Words.{words}
+use Rattle.notation.proofs.Sensing.{ranged, sense_none, sense_unknown, sense_form, uncoded}
 use Rattle.notation.proofs.read_line.Goals as goal
 
-pub returns-then-start-end : goal.returns-then-start-end
-returns-then-start-end c = sense_none _ c.next_word-word.result c.next_word-word.ensures c.if-start-end.true
+pub returns-then-word : goal.returns-then-word
+returns-then-word c = sense_none _ c.next_word-word.result c.next_word-word.ensures c.if-word.true
 
-pub code_of-code-requires : goal.code_of-code-requires
-code_of-code-requires c = let w = c.next_word-word.ensures in (w.order, w.inside)
+pub returns-in_default : goal.returns-in_default
+returns-in_default c = let w = c.next_word-word.ensures in sense_unknown _ c.next_word-word.result w (omega (arith, w.order, c.if-word.false)) 15 c.in_default.ensures.is refl
 
-pub returns-then-code-eq-UNKNOWN : goal.returns-then-code-eq-UNKNOWN
-returns-then-code-eq-UNKNOWN c = let w = c.next_word-word.ensures in sense_unknown _ c.next_word-word.result w (omega (arith, w.order, c.if-start-end.false)) _ c.code_of-code.ensures.0 c.if-code-eq-UNKNOWN.true
-
-pub read_operands-operands-requires : goal.read_operands-operands-requires
-read_operands-operands-requires c = (c.next_word-word.ensures.inside, omega (arith, c.code_of-code.ensures.1, c.if-code-eq-UNKNOWN.false))
+pub returns-in_err-a : goal.returns-in_err-a
+returns-in_err-a c =
+    let p = err_from_is_err_and c.from_residual.result c.from_residual.ensures.1 in
+    let w = c.next_word-word.ensures in
+    let d = c.in-Some.ensures in
+    rw (p.1, p.2) (c.in_err-a.ensures ∙ sym (sense_form _ c.next_word-word.result w (omega (arith, w.order, c.if-word.false)) c.in-Some.code d.is (λ e. omega (arith, d.below))))
 
 pub line_of-requires : goal.line_of-requires
 line_of-requires c =
-    let code = c.code_of-code in
+    let code = c.in-Some.code in
     let behind = words (drop c.next_word-word.result.end c.args.line.now) in
-    (omega (arith, code.ensures.1, c.if-code-eq-UNKNOWN.false), ranged (get_or kinds code.result []) behind _ (uncoded code.result (operands (get_or kinds code.result []) behind) _ (sym (ap (operands_of code.result) c.in-Whole.is) ∙ c.read_operands-operands.ensures)))
+    (c.in-Some.ensures.below, ranged (get_or kinds code []) behind _ (uncoded code (operands (get_or kinds code []) behind) _ c.in_ok-a.ensures))
 
-pub returns-in-Whole : goal.returns-in-Whole
-returns-in-Whole c =
-    let code = c.code_of-code in
+pub returns : goal.returns
+returns c =
     let w = c.next_word-word.ensures in
-    let f = sense_form _ c.next_word-word.result w (omega (arith, w.order, c.if-start-end.false)) _ code.ensures.0 c.if-code-eq-UNKNOWN.false in
-    c.line_of.ensures ∙ sym (f ∙ sym c.read_operands-operands.ensures ∙ ap (operands_of code.result) c.in-Whole.is)
-
-pub returns-in-Wrong : goal.returns-in-Wrong
-returns-in-Wrong c =
-    let code = c.code_of-code in
-    let w = c.next_word-word.ensures in
-    let f = sense_form _ c.next_word-word.result w (omega (arith, w.order, c.if-start-end.false)) _ code.ensures.0 c.if-code-eq-UNKNOWN.false in
-    sym (f ∙ sym c.read_operands-operands.ensures ∙ ap (operands_of code.result) c.in-Wrong.is)
+    let d = c.in-Some.ensures in
+    c.line_of.ensures ∙ c.in_ok-a.ensures ∙ sym (sense_form _ c.next_word-word.result w (omega (arith, w.order, c.if-word.false)) c.in-Some.code d.is (λ e. omega (arith, d.below)))

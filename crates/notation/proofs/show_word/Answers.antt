@@ -5,9 +5,6 @@ use lib.Seq.{length-take-le}
 use Rattle.listing.proofs.Putting.{put_shown_lem}
 use Rattle.notation.proofs.show_word.Goals as goal
 
-pub put_shown-end-requires : goal.put_shown-end-requires
-put_shown-end-requires c = let w = c.word_at-word.ensures in (w.order, w.inside, omega arith)
-
 pub slice_bounds-write_text-end : goal.slice_bounds-write_text-end
 slice_bounds-write_text-end c = let p = c.put_shown-end in sym (length-take-le p.result p.new.out (omega (arith, p.ensures.within, p.auto.out)))
 

@@ -1,15 +1,11 @@
 -- `soundness::nodes_ok` meets its contract. The invariant: the level is a line exactly when what lies onward is. The measure is what lies onward.
-use mathlib.Core.Path.{◌≡◌, sym, ◌∙◌}
-use mathlib.Core.Bool.{Bool, true, false}
+use mathlib.Core.Path.{sym, ◌∙◌}
 use native.Mathlib.Omega.{arith}
-use borrow.Author.Tests.{eq-eqb, ne_eqb}
 use Rattle.lists.proofs.Answers.{no, failed, passed}
 use Rattle.lists.proofs.Comparing.{says_eq}
 use Rattle.levels.proofs.Nearing.{walk_less}
-use Rattle.soundness.specs.Tested.{is_retired}
-use Rattle.soundness.proofs.Walking.{walking_start, walking_room, walking_timed, walking_next, walking_on, walked_line, walked_all, walked_old, walked_few}
+use Rattle.soundness.proofs.Walking.{walking_start, walking_room, walking_timed, walking_next, walking_on, one_at_most, walked_line, walked_all, walked_old, walked_few}
 use Rattle.soundness.proofs.nodes_ok.Goals as goal
-use Rattle.soundness.proofs.nodes_ok.Goals.{then-cell-eq-IS_RETIRED, else-cell-eq-IS_RETIRED}
 
 pub loop-n-init : goal.loop-n-init
 loop-n-init c = walking_start _ _ _ _ c.requires.1 _ c.link-n.ensures
@@ -24,21 +20,15 @@ pub overflow_add-linked : goal.overflow_add-linked
 overflow_add-linked c = omega (arith, walking_room _ _ _ _ _ _ _ c.loop-n.invariant c.loop-n-test.true, c.requires.0.small)
 
 pub overflow_add-retired : goal.overflow_add-retired
-overflow_add-retired c = omega (arith, c.loop-n.invariant.fewer, walking_room _ _ _ _ _ _ _ c.loop-n.invariant c.loop-n-test.true, c.requires.0.small)
+overflow_add-retired c = omega (arith, c.loop-n.invariant.fewer, walking_room _ _ _ _ _ _ _ c.loop-n.invariant c.loop-n-test.true, c.from-retired.ensures, one_at_most, c.requires.0.small)
 
 pub loop-n-smaller : goal.loop-n-smaller
 loop-n-smaller c = rw c.link-next.ensures (walk_less _ _ _ _ c.loop-n.invariant.stand c.loop-n-test.true)
 
 pub loop-n-preserved : goal.loop-n-preserved
 loop-n-preserved c =
-    let on = λ (b : Bool) (e : is_retired c.args.rows.now c.loop-n.n ≡ b).
-    walking_on _ _ _ _ _ _ _ c.loop-n.invariant c.loop-n-test.true b e (passed c.node_ok.ensures c.if-not-node_ok.false)
-    (passed (rw c.link-next.ensures at c.order_ok.ensures) c.if-not-order_ok.false) in
-    rw c.link-next.ensures
-    (elim c.if-cell-eq-IS_RETIRED.branch [
-      then-cell-eq-IS_RETIRED w ↦ rw w.retired-is (on true (eq-eqb _ _ (sym c.cell.ensures ∙ w.if-cell-eq-IS_RETIRED.true)))
-    | else-cell-eq-IS_RETIRED w ↦ rw w.retired-is (on false (ne_eqb _ _ (λ e. w.if-cell-eq-IS_RETIRED.false (c.cell.ensures ∙ e))))
-    ])
+    rw (c.link-next.ensures, c.from-retired.ensures, c.cell.ensures)
+    (walking_on _ _ _ _ _ _ _ c.loop-n.invariant c.loop-n-test.true (passed c.node_ok.ensures c.if-not-node_ok.false) (passed (rw c.link-next.ensures at c.order_ok.ensures) c.if-not-order_ok.false))
 
 pub overflow_add-linked-2 : goal.overflow_add-linked-2
 overflow_add-linked-2 c = omega (arith, walked_few _ _ _ _ _ _ _ c.loop-n.invariant c.loop-n-test.false, c.cell-2.ensures, c.requires.2.spares, c.requires.0.small)

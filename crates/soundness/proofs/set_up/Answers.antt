@@ -1,8 +1,8 @@
 -- `soundness::set_up` meets its contract.
-use mathlib.Core.Path.{◌≡◌, sym, ap, ◌∙◌}
+use mathlib.Core.Path.{◌≡◌, sym, ◌∙◌}
 use lib.ListN.{replicate}
 use borrow.Author.Rules.{rules}
-use Rattle.std.specs.Prelude.{Some, None, Err}
+use Rattle.std.specs.Prelude.{None, Err}
 use Rattle.lists.proofs.Answers.{passed}
 use Rattle.sizes.specs.Sizes.{size_of}
 use Rattle.sizes.proofs.Sizing.{size_rule}

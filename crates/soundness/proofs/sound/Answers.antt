@@ -43,9 +43,9 @@ nodes_ok-requires c =
 pub returns-then-not-nodes_ok : goal.returns-then-not-nodes_ok
 returns-then-not-nodes_ok c =
     no
-    (λ S. elim c.then-not-nodes_ok.branch [
-      then-not-nodes_ok-via-then-not-nodes_ok w ↦ failed c.nodes_ok.ensures w.if-not-nodes_ok.true (sound_tested _ S).nodes
-    | then-not-nodes_ok-via-else-not-nodes_ok+then-coordinator-gt-TICKETS w ↦ omega (arith, S.few, w.if-coordinator-gt-TICKETS.true)
+    (λ S. elim c.then-not-nodes_ok.branch as (λ _. ⊥) [
+      | then-not-nodes_ok-via-then-not-nodes_ok w ↦ failed c.nodes_ok.ensures w.if-not-nodes_ok.true (sound_tested _ S).nodes
+      | then-not-nodes_ok-via-else-not-nodes_ok+then-coordinator-gt-TICKETS w ↦ omega (arith, S.few, w.if-coordinator-gt-TICKETS.true)
     ])
 
 pub tickets_ok-requires : goal.tickets_ok-requires

@@ -1,15 +1,9 @@
--- `windows::move_to_front` meets its contract. The invariant: the first i bytes were moved.
-use mathlib.Core.Path.{◌≡◌}
-use Prim.Native.Nat.{◌-◌}
-use native.Mathlib.Omega.{arith}
-use Rattle.windows.proofs.Moving.{moved_next}
+-- `windows::move_to_front` meets its contract.
+use Rattle.std.proofs.Common.{◌-◌, take, drop, arith}
+use Rattle.std.proofs.lemmas.Grind.{common_steps, same_number_lists}
 use Rattle.windows.proofs.move_to_front.Goals as goal
-
-pub loop-i-preserved : goal.loop-i-preserved
-loop-i-preserved c = (omega arith, c.loop-i.invariant.1, moved_next c.loop-i.invariant.2 (omega (arith, c.requires)))
 
 pub returns : goal.returns
 returns c =
-    let v = c.loop-i.invariant in
-    let e : c.loop-i.i ≡ c.args.to - c.args.from = omega arith in
-    rw e at v.2.front
+    let n = c.args.to - c.args.from in
+    same_number_lists (take n c.loop-i.buffer) (take n (drop c.args.from c.args.buffer.now)) (grind (arith, common_steps)) (λ k h. grind (arith, common_steps, c.loop-i.invariant.front k))

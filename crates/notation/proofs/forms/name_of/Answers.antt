@@ -1,6 +1,9 @@
 -- `notation::forms::name_of` meets its contract.
-use Rattle.notation.proofs.Forming.{name_at}
+use borrow.Author.Rules.{rules}
+use Rattle.notation.specs.Forms.{names, start, name_of}
+use Rattle.notation.proofs.Forming.{read_at}
 use Rattle.notation.proofs.forms.name_of.Goals as goal
 
 pub returns : goal.returns
-returns c = name_at c.args.number
+unfolding name_of names start
+returns c = search (rules, read_at)

@@ -1,10 +1,10 @@
 -- `notation::numerals::read_number` meets its contract.
-use mathlib.Core.Path.{sym, ◌∙◌}
+use mathlib.Core.Path.{◌∙◌}
 use Rattle.notation.proofs.Numbering.{number_minus, number_plain}
 use Rattle.notation.proofs.numerals.read_number.Goals as goal
 
-pub returns-then-line-start-eq45 : goal.returns-then-line-start-eq45
-returns-then-line-start-eq45 c = let a = c.args in c.read_digits.ensures ∙ sym (number_minus a.kind a.start a.end a.line.now c.requires.0 c.requires.1 c.if-line-start-eq45.true)
+pub returns-in-Some : goal.returns-in-Some
+returns-in-Some c = c.read_digits.ensures ∙ number_minus c.args.kind c.args.word.now _ c.in-Some.ensures.cases
 
-pub returns-else-line-start-eq45 : goal.returns-else-line-start-eq45
-returns-else-line-start-eq45 c = let a = c.args in c.read_digits-else-line-start-eq45.ensures ∙ sym (number_plain a.kind a.start a.end a.line.now c.requires.0 c.requires.1 c.if-line-start-eq45.false)
+pub returns-in-None : goal.returns-in-None
+returns-in-None c = c.read_digits-in-None.ensures ∙ number_plain c.args.kind c.args.word.now c.in-None.ensures.cases

@@ -15,10 +15,10 @@ returns c =
     let h = c.args.header in
     let room = c.requires in
     let w = name_of 14 in
-    let capacity = rw (handed c.wide.result c.wide.type_inv ∙ c.wide.ensures) at c.put_spaced-first.ensures in
+    let capacity = rw (handed c.from.result c.from.type_inv ∙ c.from.ensures) at c.put_spaced-first.ensures in
     let first = line_number 80 w [] (pos h.capacity) room (line_name c.put_name-name.ensures) capacity (omega arith) in
     let word = put_then (omega arith) first c.put_bytes-word.ensures in
     let begun = (w ++ spaced (pos h.capacity ∷ [])) ++ (32 ∷ start) in
-    let version = rw (handed c.wide-2.result c.wide-2.type_inv ∙ c.wide-2.ensures) at c.put_spaced-end.ensures in
+    let version = rw (handed c.from-2.result c.from-2.type_inv ∙ c.from-2.ensures) at c.put_spaced-end.ensures in
     let second = line_number 80 begun [] (pos h.start.0) room (line_name word) version (omega arith) in
     line_end begun (pos h.start.0 ∷ []) room second c.put_bytes.ensures (omega arith)

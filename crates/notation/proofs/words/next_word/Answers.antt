@@ -1,20 +1,18 @@
 -- `notation::words::next_word` meets its contract.
+use mathlib.Core.Path.{◌≡◌}
+use Prim.Native.Nat.{◌<◌}
 use native.Mathlib.Omega.{arith}
-use Rattle.notation.proofs.Wording.{next_word, run_empty, run_remark, run_word}
+use lib.ListN.{length, get_or}
+use Rattle.notation.proofs.Wording.{next_word, run_remark, run_word}
 use Rattle.notation.proofs.words.next_word.Goals as goal
+use Rattle.notation.proofs.words.next_word.Goals.{else-start-line-via-then-start-line+else-line-start-eq-REMARK, else-start-line-via-else-start-line}
 
-pub returns-then-start-end : goal.returns-then-start-end
-returns-then-start-end c = let e = c.run_end-end.ensures in next_word _ _ _ _ c.run_end-start.ensures.0 (run_empty _ _ _ e.0 e.1 (omega (arith, c.if-start-end.true))) e.1
-
-pub bounds-line-start : goal.bounds-line-start
-bounds-line-start c = let e = c.run_end-end.ensures in omega (arith, c.if-start-end.false, e.0, e.1)
-
-pub returns-then-line-start-eq35 : goal.returns-then-line-start-eq35
-returns-then-line-start-eq35 c =
-    let e = c.run_end-end.ensures in
-    next_word _ _ _ _ c.run_end-start.ensures.0 (run_remark _ _ _ e.0 e.1 (omega (arith, c.if-start-end.false, e.0)) c.if-line-start-eq35.true) (omega (arith, e.0, e.1))
+pub returns-then-line-start-eq-REMARK : goal.returns-then-line-start-eq-REMARK
+returns-then-line-start-eq-REMARK c = next_word _ _ _ _ c.run_end-start.ensures.0 (run_remark _ _ c.if-start-line.true c.if-line-start-eq-REMARK.true) c.run_end-start.ensures.1
 
 pub returns : goal.returns
 returns c =
     let e = c.run_end-end.ensures in
-    next_word _ _ _ _ c.run_end-start.ensures.0 (run_word _ _ _ e.0 e.1 (omega (arith, c.if-start-end.false, e.0)) c.if-line-start-eq35.false) e.1
+    let no_remark : c.run_end-start.result < length c.args.line.now → get_or c.args.line.now c.run_end-start.result 0 ≡ 35 → ⊥ =
+    λ h n. elim c.else-start-line.branch [ else-start-line-via-then-start-line+else-line-start-eq-REMARK w ↦ w.if-line-start-eq-REMARK.false n | else-start-line-via-else-start-line w ↦ omega (arith, w.if-start-line.false) ] in
+    next_word _ _ _ _ c.run_end-start.ensures.0 (run_word _ _ _ no_remark e.0) e.1
