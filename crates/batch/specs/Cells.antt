@@ -1,8 +1,7 @@
 -- An answer as five cells.
 -- Assumes nothing.
-use Rattle.std.specs.Prelude.{Result, Ok, Err}
+use Rattle.std.specs.Prelude.{Result, Ok, Err, List, [], ◌∷◌, ℕ, get_or, ℤ, pos}
 use Rattle.model.specs.declared.Refusal.{Refusal}
-use Rattle.std.specs.Prelude.{List, [], ◌∷◌, ℕ, get_or, ℤ, pos}
 use Rattle.model.specs.declared.Stepped.{Stepped}
 use Rattle.model.specs.Calls.{Answer, refused, answered}
 

@@ -1,16 +1,14 @@
 -- One call of a list: what it asks of the model, and what it does to sound tables and to the places of the pair buffers that it is lent.
 -- Assumes nothing.
-use Rattle.std.specs.Prelude.{Result}
-use Rattle.model.specs.declared.Refusal.{Refusal}
-use Rattle.std.specs.Prelude.{◌≡◌, cond, List, [], ◌∷◌, ◌++◌, map, ℕ, min, ◌≤◌, length, get_or, take, drop, eqb, ℤ}
+use Rattle.std.specs.Prelude.{◌≡◌, cond, Result, List, [], ◌∷◌, ◌++◌, map, ℕ, min, ◌≤◌, length, get_or, take, drop, eqb, ℤ}
 use Rattle.std.specs.Int.Signed.{mag}
 use Rattle.lists.specs.Buffers.{written}
 use Rattle.groups.specs.Signs.{turned}
 use Rattle.transactions.specs.declared.Call.{Call}
 use Rattle.transactions.specs.declared.Call.TheVariants.{Lookup, Insert, Remove, HandOver, Ceil, Floor, Succ, Pred, Fast, Open, Step, Close, Sweep, Tally}
+use Rattle.model.specs.declared.Refusal.{Refusal}
 use Rattle.model.specs.Plain.{Pair}
 use Rattle.model.specs.Calls as C
-use Rattle.model.specs.Calls.{made_due}
 use Rattle.model.specs.Model as M
 use Rattle.tables.specs.Tables.{Tables, Met, view}
 use Rattle.model.specs.Answers.{of_result, told_stepped}
@@ -114,7 +112,7 @@ reply_of cells pairs = record { cells = cells; pairs = pairs }
 pub record FastReply (keys : List ℕ) (values : List ℤ) (rows : List ℕ) (counter : ℕ) (low high : ℤ) (ks vs ks' vs' : List ℤ) (r : Reply) : Type 0 where
   pub answer : Result ℕ Refusal
   pub by : RangedBy keys values rows counter low high ks vs ks' vs' answer
-  pub is : r ≡ reply_of (cells_of 8 (of_result made_due answer)) (ranged_count answer)
+  pub is : r ≡ reply_of (cells_of 8 (of_result C.made_due answer)) (ranged_count answer)
 
 -- a step with so many places, at the front of both buffers: k ranges are open
 pub record StepReply (keys : List ℕ) (values : List ℤ) (rows : List ℕ) (ts ts' : List Ticket) (k v places : ℕ) (ks vs ks' vs' : List ℤ) (r : Reply) : Type 0 where
