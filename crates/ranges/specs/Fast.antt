@@ -1,9 +1,8 @@
 -- Fast range: its answer, and the pairs that it hands out.
 -- Assumes nothing.
-use Rattle.std.specs.Prelude.{Result, Ok, Err}
 use Rattle.model.specs.declared.Refusal.{Refusal}
 use Rattle.model.specs.declared.Refusal.TheVariants.{BoundsReversed, TooManyPairs, TooFewPlaces}
-use Rattle.std.specs.Prelude.{◌≡◌, cond, List, [], ℕ, ◌+◌, length, ltb, ℤ}
+use Rattle.std.specs.Prelude.{◌≡◌, cond, List, [], ℕ, ◌+◌, length, ltb, ℤ, Result, Ok, Err}
 use Rattle.std.specs.Int.Signed.{lt_z}
 use Rattle.lists.specs.Buffers.{written}
 use Rattle.model.specs.Model.{fast_limit}

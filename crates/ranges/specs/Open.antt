@@ -1,7 +1,6 @@
 -- Open: its answer, and what it does to the tickets and the coordinator.
 -- Assumes nothing.
-use Rattle.std.specs.Prelude.{Result, Ok, Err}
-use Rattle.std.specs.Prelude.{true, cond, List, ℕ, ◌+◌, length, set, leb, ℤ}
+use Rattle.std.specs.Prelude.{true, cond, List, ℕ, ◌+◌, length, set, leb, ℤ, Result, Ok, Err}
 use Rattle.std.specs.Int.Signed.{lt_z}
 use Rattle.sizes.specs.Rank.{rank_of}
 use Rattle.model.specs.Model.{last_version}

@@ -50,15 +50,16 @@ pub fn close_range(
         return Err(Refusal::NoSuchRange);
     };
     let held = tickets[j].held;
-    coordinator.ranges -= 1;
-    if j == 0 {
-        drop_ticket(tickets, ranges, j);
-        coordinator.due += held;
-        return Ok(held);
-    }
-    tickets[j - 1].held += held;
+    let due = if j == 0 {
+        held
+    } else {
+        tickets[j - 1].held += held;
+        0
+    };
     drop_ticket(tickets, ranges, j);
-    Ok(0)
+    coordinator.ranges -= 1;
+    coordinator.due += due;
+    Ok(due)
 }
 
 // Whether a range of that version may rest on the node. A version of 64 bits: that of a range opened now may be one more than the last.
