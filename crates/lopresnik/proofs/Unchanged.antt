@@ -4,24 +4,34 @@ use Rattle.std.specs.Prelude.{Result, Ok, Err, ⊤}
 use Rattle.model.specs.declared.Refusal.{Refusal}
 use mathlib.Core.Path.{◌≡◌, refl, subst}
 use mathlib.Core.Logic.{◌≢◌}
-use mathlib.Core.Bool.{Bool, false}
-use mathlib.Core.List.{List, []}
+use mathlib.Core.Bool.{Bool, true, false, cond}
+use mathlib.Core.List.{List, [], ◌∷◌}
 use Prim.Native.Nat.{ℕ}
 use native.Mathlib.Omega.{arith}
 use lib.IntN.{ℤ, pos}
 use Rattle.sizes.specs.declared.Version.{Version}
-use Rattle.model.specs.Calls.{Answer, refused, answered, accepted}
-use Rattle.model.specs.Answers.{of_found, of_inserted, of_removed, of_handed, of_nearest, of_ranged, of_opened, of_stepped, of_closed, of_swept, of_tallied}
+use Rattle.model.specs.declared.Handed.{Handed}
+use Rattle.model.specs.declared.Handed.TheVariants.{Freed, Held}
+use Rattle.model.specs.declared.Stepped.{Stepped}
+use Rattle.model.specs.declared.Swept.{Swept}
+use Rattle.sizes.specs.declared.Node.{Node}
+use Rattle.model.specs.Calls.{Answer, refused, answered, accepted, node, opened, made_due, swept}
+use Rattle.model.specs.Answers.{told_handed, paired, of_found, of_inserted, of_removed, of_handed, of_nearest, of_ranged, of_opened, of_stepped, of_closed, of_swept, of_tallied}
 use Rattle.tables.specs.Tables.{Tables}
 use Rattle.calls.specs.Entries as E
 use Rattle.batch.specs.declared.End.{End}
 use Rattle.batch.specs.Cells.{cells_of}
-use Rattle.batch.proofs.Refusals.{inserted_refused, removed_refused, handed_refused, ranged_refused, opened_refused, stepped_refused, closed_refused, swept_refused}
+use Rattle.batch.proofs.Refusals.{refused_only}
 use Rattle.batch.specs.declared.Batch.{Batch}
 use Rattle.lent.specs.Forms.{SetsUp, Looks, Nears, Tallies, Inserts, Removes, HandsOver, Sweeps, Opens, Closes, Steps, Ranges, Rooms, Runs}
 use Rattle.lent.proofs.Unchanged as L
 use Rattle.lopresnik.specs.declared.Ran.{Ran}
 use Rattle.lopresnik.specs.Exports.{Gives, refusal_in, refusal, ending, ran}
+
+-- a hand-over that is not refused is accepted
+handed_accepted : (h : Handed) → accepted (told_handed h) ≡ true
+handed_accepted Freed = refl
+handed_accepted Held = refl
 
 -- LAW: where the lent form leaves what is lent at each answer whose numbers tell a refusal, so does the exported function
 pub gives_unchanged : {X E R : Type 0} {Form : E → Type 0} {numbers : E → R} {r : R} {before exit : X} (Told : R → Type 0)
@@ -60,30 +70,30 @@ module _ (n : ℕ) (t t' : Tables) (cells : List ℤ) (e : refusal_in cells ≢ 
   tally_unchanged = cells_unchanged 13 of_tallied (λ a _. L.tally_unchanged n t t' a) e
 
   pub insert_unchanged : (k v : ℤ) (coin : ℕ) → Gives (Inserts n k v coin t t') (λ a. cells_of 1 (of_inserted a)) cells → t' ≡ t
-  insert_unchanged k v coin = cells_unchanged 1 of_inserted (inserted_refused (λ a. Inserts n k v coin t t' a → t' ≡ t) (L.insert_unchanged n k v coin t t')) e
+  insert_unchanged k v coin = cells_unchanged 1 of_inserted (refused_only (λ (i : Node). node i.0) (λ x. refl) (λ a. Inserts n k v coin t t' a → t' ≡ t) (L.insert_unchanged n k v coin t t')) e
 
   pub remove_unchanged : (k : ℤ) → Gives (Removes n k t t') (λ a. cells_of 2 (of_removed a)) cells → t' ≡ t
-  remove_unchanged k = cells_unchanged 2 of_removed (removed_refused (λ a. Removes n k t t' a → t' ≡ t) (L.remove_unchanged n k t t')) e
+  remove_unchanged k = cells_unchanged 2 of_removed (refused_only (λ (i : Node). node i.0) (λ x. refl) (λ a. Removes n k t t' a → t' ≡ t) (L.remove_unchanged n k t t')) e
 
   pub hand_over_unchanged : (i : ℕ) → Gives (HandsOver n i t t') (λ a. cells_of 3 (of_handed a)) cells → t' ≡ t
-  hand_over_unchanged i = cells_unchanged 3 of_handed (handed_refused (λ a. HandsOver n i t t' a → t' ≡ t) (L.hand_over_unchanged n i t t')) e
+  hand_over_unchanged i = cells_unchanged 3 of_handed (refused_only told_handed handed_accepted (λ a. HandsOver n i t t' a → t' ≡ t) (L.hand_over_unchanged n i t t')) e
 
   pub open_unchanged : (l h : ℤ) → Gives (Opens n l h t t') (λ a. cells_of 9 (of_opened a)) cells → t' ≡ t
-  open_unchanged l h = cells_unchanged 9 of_opened (opened_refused (λ a. Opens n l h t t' a → t' ≡ t) (L.open_unchanged n l h t t')) e
+  open_unchanged l h = cells_unchanged 9 of_opened (refused_only (λ (v : Version). opened v.0) (λ x. refl) (λ a. Opens n l h t t' a → t' ≡ t) (L.open_unchanged n l h t t')) e
 
   pub close_unchanged : (v : ℕ) → Gives (Closes n v t t') (λ a. cells_of 11 (of_closed a)) cells → t' ≡ t
-  close_unchanged v = cells_unchanged 11 of_closed (closed_refused (λ a. Closes n v t t' a → t' ≡ t) (L.close_unchanged n v t t')) e
+  close_unchanged v = cells_unchanged 11 of_closed (refused_only made_due (λ x. refl) (λ a. Closes n v t t' a → t' ≡ t) (L.close_unchanged n v t t')) e
 
   pub sweep_unchanged : Gives (Sweeps n t t') (λ a. cells_of 12 (of_swept a)) cells → t' ≡ t
-  sweep_unchanged = cells_unchanged 12 of_swept (swept_refused (λ a. Sweeps n t t' a → t' ≡ t) (L.sweep_unchanged n t t')) e
+  sweep_unchanged = cells_unchanged 12 of_swept (refused_only (λ (s : Swept). swept s.freed s.due) (λ x. refl) (λ a. Sweeps n t t' a → t' ≡ t) (L.sweep_unchanged n t t')) e
 
 -- the pair buffers are lent too
 module _ (n : ℕ) (x y : E.Lent) (cells : List ℤ) (e : refusal_in cells ≢ pos 0) where
   pub fast_unchanged : (l h : ℤ) → Gives (Ranges n l h x y) (λ a. cells_of 8 (of_ranged [] [] a)) cells → y ≡ x
-  fast_unchanged l h = cells_unchanged 8 (of_ranged [] []) (ranged_refused [] [] (λ a. Ranges n l h x y a → y ≡ x) (L.fast_unchanged n l h x y)) e
+  fast_unchanged l h = cells_unchanged 8 (of_ranged [] []) (refused_only (λ n. answered (pos n ∷ []) (paired n [] [])) (λ x. refl) (λ a. Ranges n l h x y a → y ≡ x) (L.fast_unchanged n l h x y)) e
 
   pub step_unchanged : (v : ℕ) → Gives (Steps n v x y) (λ a. cells_of 10 (of_stepped [] [] a)) cells → y ≡ x
-  step_unchanged v = cells_unchanged 10 (of_stepped [] []) (stepped_refused [] [] (λ a. Steps n v x y a → y ≡ x) (L.step_unchanged n v x y)) e
+  step_unchanged v = cells_unchanged 10 (of_stepped [] []) (refused_only (λ (s : Stepped). answered (pos s.pairs ∷ pos (cond s.finished 1 0) ∷ []) (paired s.pairs [] [])) (λ x. refl) (λ a. Steps n v x y a → y ≡ x) (L.step_unchanged n v x y)) e
 
 -- a list that ended as refused: with 4
 end_tells : (P : Type 0) (end : End) → ((m : Refusal) → end ≡ End.Refused m → P) → (ending end).0 ≡ 4 → P

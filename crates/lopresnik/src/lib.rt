@@ -41,7 +41,7 @@ pub struct Ran {
 }
 
 // An answer in cells.
-fn answer<T: Told>(code: u32, made: Result<T, Refusal>) -> Answer
+fn in_cells<T: Told>(code: u32, made: Result<T, Refusal>) -> Answer
     ensures { result.cells ≡ cells_of code (of_result T.told made) }
 {
     Answer {
@@ -125,7 +125,7 @@ pub fn lopresnik_lookup(
     ensures { Gives (Looks (length tickets.old) key (lent keys.now values.now rows.now buckets.now tickets.old coordinator.old) (lent keys.now values.now rows.now buckets.now tickets.new coordinator.new)) (λ a. cells_of 0 (of_found a)) result.cells }
 {
     let made = lent::lookup(keys, values, rows, buckets, tickets, coordinator, key);
-    answer(0, made)
+    in_cells(0, made)
 }
 
 // Insert: the key with its value; the coin makes its height.
@@ -153,7 +153,7 @@ pub fn lopresnik_insert(
         value,
         coin,
     );
-    answer(1, made)
+    in_cells(1, made)
 }
 
 // Remove: the key's node becomes pending.
@@ -169,7 +169,7 @@ pub fn lopresnik_remove(
     ensures { Gives (Removes (length tickets.old) key (lent keys.now values.now rows.old buckets.old tickets.old coordinator.old) (lent keys.now values.now rows.new buckets.new tickets.new coordinator.new)) (λ a. cells_of 2 (of_removed a)) result.cells }
 {
     let made = lent::remove(keys, values, rows, buckets, tickets, coordinator, key);
-    answer(2, made)
+    in_cells(2, made)
 }
 
 // Hand over: a pending node is freed at once, or joins the list of the latest range.
@@ -193,7 +193,7 @@ pub fn lopresnik_hand_over(
         coordinator,
         Node(node),
     );
-    answer(3, made)
+    in_cells(3, made)
 }
 
 // Ceil: the nearest present key at or above.
@@ -209,7 +209,7 @@ pub fn lopresnik_ceil(
     ensures { Gives (Nears (length tickets.old) key 0 true (lent keys.now values.now rows.now buckets.now tickets.old coordinator.old) (lent keys.now values.now rows.now buckets.now tickets.new coordinator.new)) (λ a. cells_of 4 (of_nearest a)) result.cells }
 {
     let made = lent::ceil(keys, values, rows, buckets, tickets, coordinator, key);
-    answer(4, made)
+    in_cells(4, made)
 }
 
 // Floor: the nearest present key at or below.
@@ -225,7 +225,7 @@ pub fn lopresnik_floor(
     ensures { Gives (Nears (length tickets.old) key 1 true (lent keys.now values.now rows.now buckets.now tickets.old coordinator.old) (lent keys.now values.now rows.now buckets.now tickets.new coordinator.new)) (λ a. cells_of 5 (of_nearest a)) result.cells }
 {
     let made = lent::floor(keys, values, rows, buckets, tickets, coordinator, key);
-    answer(5, made)
+    in_cells(5, made)
 }
 
 // Succ: the nearest present key above.
@@ -241,7 +241,7 @@ pub fn lopresnik_succ(
     ensures { Gives (Nears (length tickets.old) key 0 false (lent keys.now values.now rows.now buckets.now tickets.old coordinator.old) (lent keys.now values.now rows.now buckets.now tickets.new coordinator.new)) (λ a. cells_of 6 (of_nearest a)) result.cells }
 {
     let made = lent::succ(keys, values, rows, buckets, tickets, coordinator, key);
-    answer(6, made)
+    in_cells(6, made)
 }
 
 // Pred: the nearest present key below.
@@ -257,7 +257,7 @@ pub fn lopresnik_pred(
     ensures { Gives (Nears (length tickets.old) key 1 false (lent keys.now values.now rows.now buckets.now tickets.old coordinator.old) (lent keys.now values.now rows.now buckets.now tickets.new coordinator.new)) (λ a. cells_of 7 (of_nearest a)) result.cells }
 {
     let made = lent::pred(keys, values, rows, buckets, tickets, coordinator, key);
-    answer(7, made)
+    in_cells(7, made)
 }
 
 // Fast range: all pairs within the bounds, where they are at most 64 and both buffers have places for them.
@@ -287,7 +287,7 @@ pub fn lopresnik_fast_range(
         out_keys,
         out_values,
     );
-    answer(8, made)
+    in_cells(8, made)
 }
 
 // Open: a range with these bounds; the answer is its version.
@@ -304,7 +304,7 @@ pub fn lopresnik_open_range(
     ensures { Gives (Opens (length tickets.old) low high (lent keys.now values.now rows.now buckets.now tickets.old coordinator.old) (lent keys.now values.now rows.now buckets.now tickets.new coordinator.new)) (λ a. cells_of 9 (of_opened a)) result.cells }
 {
     let made = lent::open_range(keys, values, rows, buckets, tickets, coordinator, low, high);
-    answer(9, made)
+    in_cells(9, made)
 }
 
 // Step: the next pairs of the open range of that version, as many as both buffers have places for.
@@ -332,7 +332,7 @@ pub fn lopresnik_step_range(
         out_keys,
         out_values,
     );
-    answer(10, made)
+    in_cells(10, made)
 }
 
 // Close: the open range of that version, at any moment.
@@ -356,7 +356,7 @@ pub fn lopresnik_close_range(
         coordinator,
         Version(version),
     );
-    answer(11, made)
+    in_cells(11, made)
 }
 
 // Sweep: the first due node is freed.
@@ -371,7 +371,7 @@ pub fn lopresnik_sweep(
     ensures { Gives (Sweeps (length tickets.old) (lent keys.now values.now rows.old buckets.now tickets.old coordinator.old) (lent keys.now values.now rows.new buckets.now tickets.new coordinator.new)) (λ a. cells_of 12 (of_swept a)) result.cells }
 {
     let made = lent::sweep(keys, values, rows, buckets, tickets, coordinator);
-    answer(12, made)
+    in_cells(12, made)
 }
 
 // Tally: present nodes, held nodes, free nodes.
@@ -386,7 +386,7 @@ pub fn lopresnik_tally(
     ensures { Gives (Tallies (length tickets.old) (lent keys.now values.now rows.now buckets.now tickets.old coordinator.old) (lent keys.now values.now rows.now buckets.now tickets.new coordinator.new)) (λ a. cells_of 13 (of_tallied a)) result.cells }
 {
     let made = lent::tally(keys, values, rows, buckets, tickets, coordinator);
-    answer(13, made)
+    in_cells(13, made)
 }
 
 // Makes the calls of a list, taken as schedule bytes, one after another; soundness is tested once.
