@@ -24,8 +24,9 @@ pub data PrintsFile (bytes : List ℕ) : List ℕ → Type 0 where
   ran : (h : Header) (len : ℕ) (s : State) (out : List ℕ) → HeaderRead bytes false (Ok (h, len)) → set_up_result h.capacity ≡ 0 → set_up h.capacity h.start.0 ≡ some s
       → Prints s 0 len (drop len bytes) out → PrintsFile bytes (set_up_line (set_up_result h.capacity) ++ out)
 
--- ---- turn after turn: the memory, the session, the buffer, the bytes still to be read, and what is printed
+-- ---- turn after turn
 
+-- the memory, the session, the bytes held, those still to be read, and what is printed
 pub data Runs : Memory → Session → List ℕ → List ℕ → List ℕ → Type 0 where
   over : {m m' : Memory} {s s' : Session} {input later : List ℕ} {b b' : Buffers} {r : Turned} → TurnBy m s input b m' s' b' r → r.next ≡ Over
       → Runs m s input later (take r.length b'.out)

@@ -20,6 +20,7 @@ abbrev pub result_in : Option Size → ℕ
 result_in (Some size) = cond (leb size.capacity 256) 0 1
 result_in None = 2
 
+-- and that for a capacity
 abbrev pub set_up_result : ℕ → ℕ
 set_up_result capacity = result_in (size_of capacity)
 

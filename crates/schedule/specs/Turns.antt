@@ -92,11 +92,13 @@ pub record Only (text : List ℕ) (after : Next) (m : Memory) (s : Session) (m' 
   pub session : s' ≡ s
   pub memory : m' ≡ m
 
+-- by what reading the header answers
 abbrev pub HeaderTurn : Memory → Session → Memory → Session → List ℕ → Turned → Result (Header × ℕ) Halt → Type 0
-HeaderTurn m s m' s' out r (Ok read) = Begins m s m' s' out r read.0 read.1
+HeaderTurn m s m' s' out r (Ok (h, len)) = Begins m s m' s' out r h len
 HeaderTurn m s m' s' out r (Err (Halt.Stop place)) = Only (stop_line (place_of s.window + place)) Over m s m' s' out r
 HeaderTurn m s m' s' out r (Err Halt.More) = Only [] Read m s m' s' out r
 
+-- the turn at the header
 pub record HeaderBy (m : Memory) (s : Session) (input : List ℕ) (m' : Memory) (s' : Session) (out : List ℕ) (r : Turned) : Type 0 where
   pub reading : Result (Header × ℕ) Halt
   pub reads : HeaderRead (held_in s.window input) s.window.more reading
@@ -148,6 +150,7 @@ pub record Goes (s s' : Session) (r : Turned) : Type 0 where
   pub on : r.next ≡ On → left_of s'.window < left_of s.window
   pub read : r.next ≡ Read → (s'.window.more ≡ true) × (left_of s'.window ≤ left_of s.window)
 
+-- it is the turn at the header, or one behind it
 pub record TurnBy (m : Memory) (s : Session) (input : List ℕ) (b : Buffers) (m' : Memory) (s' : Session) (b' : Buffers) (r : Turned) : Type 0 where
   pub header : s.begun ≡ false → HeaderBy m s input m' s' b'.out r
   pub part : s.begun ≡ true → PartBy m s input b m' s' b' r

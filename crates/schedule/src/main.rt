@@ -60,8 +60,7 @@ struct Lengths {
     buckets: usize,
 }
 
-// What is carried from turn to turn: whether the header was read, how the memory is cut then, its tickets and its coordinator, what is held of
-// the input, and how many calls were made.
+// What is carried from turn to turn: whether the header was read, how the memory is cut then, tickets and coordinator, what is held of the input, and how many calls were made.
 #[derive(Drop)]
 struct Session {
     begun: bool,
