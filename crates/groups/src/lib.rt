@@ -19,6 +19,15 @@ pub enum Unread {
 #[derive(Clone, Copy, Debug, PartialEq, Eq)]
 pub struct TooShort;
 
+// The number of this refusal.
+impl From<TooShort> for u32 {
+    ghost from_gives = { λ refusal n. n ≡ 1 };
+
+    fn from(_refusal: TooShort) -> u32 {
+        1
+    }
+}
+
 // The bytes from this place on, none where it lies behind the end.
 fn left(bytes: &[u8], at: usize) -> &[u8]
     ensures { result.now ≡ drop at bytes.now }
