@@ -36,6 +36,7 @@ fn left(bytes: &[u8], at: usize) -> &[u8]
 }
 
 // Reads the number that begins at this place. Where ten bytes are left, numbers of one to three bytes and of nine or ten are read without a loop.
+#[inline(always)]
 pub fn read(bytes: &[u8], at: usize) -> Result<(u64, usize), Unread>
     ensures { Reads (drop at bytes.now) result }
 {
@@ -64,6 +65,7 @@ pub fn read(bytes: &[u8], at: usize) -> Result<(u64, usize), Unread>
 }
 
 // Reads on behind three bytes that are worth this: a number of nine or ten bytes at once, with no branch between the two lengths.
+#[inline(always)]
 fn read_long(bytes: &[u8], at: usize, first: u64) -> Result<(u64, usize), Unread>
     requires { (at + 10 ≤ length bytes.now) × Led (drop at bytes.now) first }
     ensures { Reads (drop at bytes.now) result }
@@ -87,6 +89,7 @@ fn read_long(bytes: &[u8], at: usize, first: u64) -> Result<(u64, usize), Unread
 }
 
 // The first three groups, the next five and a ninth byte as one number. The ninth byte's high bit is the number's highest.
+#[inline(always)]
 fn join_groups(first: u64, b3: u64, b4: u64, b5: u64, b6: u64, b7: u64, b8: u64) -> u64
     requires { (first < 2097152) × High b3 × High b4 × High b5 × High b6 × High b7 × (b8 < 256) }
     ensures { result ≡ first + (b3 - 128) * 2097152 + (b4 - 128) * 268435456 + (b5 - 128) * 34359738368 + (b6 - 128) * 4398046511104 + (b7 - 128) * 562949953421312 + b8 * 72057594037927936 }

@@ -28,6 +28,7 @@ pub struct Found {
 }
 
 // The neighbour of `n` on the level `l` in the direction `d`.
+#[inline(always)]
 pub fn link(rows: &[u32], l: usize, d: Direction, n: u32) -> u32
     requires { (l < 12) × Row rows.now n }
     ensures { result ≡ links rows.now l (way d) n }
@@ -124,6 +125,7 @@ pub fn nearest(rows: &[u32], cap: u32, d: Direction, from: u32) -> u32
 }
 
 // Whether `m` and the last node so far are linked to each other on each level below `h`.
+#[inline(always)]
 fn follows(rows: &[u32], last: &[u32], m: u32, h: usize) -> bool
     requires { Followable rows.now last.now m h }
     ensures { Says result (Each h (Follows rows.now last.now m)) }

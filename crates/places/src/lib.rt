@@ -122,6 +122,7 @@ pub fn clear_places(rows: &mut [u32], cap: u32)
 }
 
 // Whether the entry of a column at the seat is a node in the place p that has this seat.
+#[inline(always)]
 fn seated(rows: &[u32], cap: u32, which: Column, p: u32, seat: u32) -> bool
     requires { Sized rows.now cap × (number_of which < 32) × (seat < cap) }
     ensures { Says result (Seated (column rows.now (number_of which)) (places rows.now) (seats rows.now) cap p seat) }

@@ -37,6 +37,7 @@ pub const IS_PENDING: u32 = 2;
 pub const IS_RETIRED: u32 = 3;
 
 // Where the link of the row n on the level l in the direction d stands, of c rows: first the links after on level 0 alone, which a walk of the lowest level reads.
+#[inline(always)]
 #[tactic(auto, unfolding(crate::specs::Rows::address))]
 fn link_address(c: usize, n: usize, l: usize, d: Direction) -> usize
     requires { (n < c) × (l < 12) × (c * 32 ≤ 18446744073709551615) }
@@ -54,6 +55,7 @@ fn link_address(c: usize, n: usize, l: usize, d: Direction) -> usize
 
 // Where the cell of the row n in a column stands, of c rows: four columns first, then the rows of the other fields and the links up to level 5, then those of the
 // levels above. So a walk of the lowest level reads whole cache lines of few columns.
+#[inline(always)]
 #[tactic(auto, unfolding(crate::specs::Rows::address))]
 fn address(c: usize, n: usize, which: Column) -> usize
     requires { (n < c) × (number_of which < 32) × (c * 32 ≤ 18446744073709551615) }
@@ -73,6 +75,7 @@ fn address(c: usize, n: usize, which: Column) -> usize
 }
 
 // The cell of the row n in a column.
+#[inline(always)]
 #[tactic(auto, unfolding(crate::specs::Rows::column))]
 pub fn cell(rows: &[u32], n: u32, which: Column) -> u32
     requires { (n * 32 + 32 ≤ length rows.now) × (number_of which < 32) }
@@ -82,6 +85,7 @@ pub fn cell(rows: &[u32], n: u32, which: Column) -> u32
 }
 
 // Sets the cell of the row n in a column.
+#[inline(always)]
 #[tactic(auto, unfolding(crate::specs::Rows::put))]
 pub fn put(rows: &mut [u32], n: u32, which: Column, v: u32)
     requires { (n * 32 + 32 ≤ length rows.old) × (number_of which < 32) }

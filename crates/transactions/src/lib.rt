@@ -58,6 +58,7 @@ struct Three {
 }
 
 // The three with n in the place i.
+#[inline(always)]
 fn with_number(three: Three, i: usize, n: u64) -> Three
     requires { i < 3 }
     ensures { in_order result ≡ set (in_order three) i n }
@@ -70,6 +71,7 @@ fn with_number(three: Three, i: usize, n: u64) -> Three
 }
 
 // Reads the number that begins at this place, which is no greater than the limit, and its length.
+#[inline(always)]
 fn read_number(bytes: &[u8], at: usize, more: bool, most: u64) -> Result<(u64, usize), Halt>
     ensures { NumberRead most (drop at bytes.now) at more result }
 {
