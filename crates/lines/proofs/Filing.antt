@@ -1,5 +1,6 @@
 -- A file run in parts, however it is cut, prints what it prints.
 -- Assumes nothing.
+use Rattle.std.specs.Prelude.{Err}
 use mathlib.Core.Path.{◌≡◌, refl, sym, ap, ap₂, ◌∙◌, subst}
 use mathlib.Core.Bool.{false}
 use mathlib.Core.List.{List, [], ◌∷◌, ◌++◌, map, append_assoc, append-nil, map-append}
@@ -16,7 +17,6 @@ use Rattle.model.specs.Calls as C
 use Rattle.model.specs.Model as M
 use Rattle.tables.specs.Tables.{Tables, Sound, view}
 use Rattle.batch.specs.declared.End.{End}
-use Rattle.batch.specs.declared.Then.TheVariants.{Over}
 use Rattle.batch.specs.Turns.{room, meant}
 use Rattle.batch.specs.Lists.{Input, Output, bytes_in, made_on, Made, Follows, leaves, Listed}
 use Rattle.batch.proofs.Listing.{listed_bytes, listed_model}
@@ -86,7 +86,7 @@ module _ {i : Input} {o : Output} (l : Listed i o) where
   listed_stop : (later : List ℕ) (place offset : ℕ) → o.end ≡ End.Stop offset → (i.more ≡ false → later ≡ [])
       → Last (drop o.used i.bytes ++ later) (place + length (bytes_in cs)) (stop_line (place + offset))
   listed_stop later place offset e f =
-      let s = subst (λ (x : End). Follows i cs (Over x)) e l.ends in
+      let s = subst (λ (x : End). Follows i cs (Err x)) e l.ends in
       let u = used_is l in
       let d = length-drop o.used i.bytes in
       F.stopped (place + offset) (omega (arith, length-append (drop o.used i.bytes) later, s.0.left))
@@ -98,7 +98,7 @@ module _ {i : Input} {o : Output} (l : Listed i o) where
 
   listed_end : o.end ≡ End.Ended → drop o.used i.bytes ≡ []
   listed_end e =
-      let s = subst (λ (x : End). Follows i cs (Over x)) e l.ends in
+      let s = subst (λ (x : End). Follows i cs (Err x)) e l.ends in
       let u = used_is l in
       let n : length i.bytes ≤ o.used = omega arith in
       drop_of_length-le i.bytes n

@@ -1,5 +1,6 @@
 -- What the outcome of a batch tells of the cells and the pairs that it laid down, of the bytes that it used and of why it ended.
 -- Assumes nothing.
+use Rattle.std.specs.Prelude.{Err}
 use mathlib.Core.Path.{◌≡◌, refl, sym, ap, ◌∙◌, subst}
 use mathlib.Core.Bool.{Bool, true, false}
 use mathlib.Core.List.{List, [], ◌∷◌, ◌++◌, map}
@@ -18,7 +19,6 @@ use Rattle.model.specs.Model as M
 use Rattle.tables.specs.Tables.{Tables, view}
 use Rattle.batch.specs.declared.End.{End}
 use Rattle.batch.specs.declared.End.TheVariants.{Stop, Full}
-use Rattle.batch.specs.declared.Then.TheVariants.{Over}
 use Rattle.batch.specs.Turns.{room, meant, keys_in, values_in}
 use Rattle.batch.specs.Lists.{Input, Output, bytes_in, made_on, cells_in, pairs_in, Follows, leaves, untouched, Listed, Ran}
 use Rattle.batch.proofs.Listing.{call_some, listed_bytes}
@@ -222,7 +222,7 @@ untouched_other {i} r end e n = go r.tested refl
     go false t = absurd (n (sym (ap (λ (x : Output). x.end) (r.refuses t)) ∙ e))
 
 -- with no call made, the room is what was lent
-none_full : (i : Input) → 5 ≤ length i.answers → room ≤ length i.keys → room ≤ length i.values → Follows i [] (Over Full) → ⊥
+none_full : (i : Input) → 5 ≤ length i.answers → room ≤ length i.keys → room ≤ length i.values → Follows i [] (Err Full) → ⊥
 unfolding made_on M.history
 none_full i a b c f = f.1 (record { cells = omega arith; for_keys = omega arith; for_values = omega arith })
 
@@ -241,7 +241,7 @@ module _ {i : Input} {o : Output} (r : Ran i o) where
       l = r.lists (full_lists e)
 
       go : (cs : List Call) → l.made ≡ cs → 0 < o.used
-      go [] m = absurd (none_full i a b c (subst (λ (cs : List Call). Follows i cs (Over Full)) m (subst (λ (x : End). Follows i l.made (Over x)) e l.ends)))
+      go [] m = absurd (none_full i a b c (subst (λ (cs : List Call). Follows i cs (Err Full)) m (subst (λ (x : End). Follows i l.made (Err x)) e l.ends)))
       go (d ∷ cs) m =
           let u : o.used ≡ length (bytes_in (d ∷ cs)) = used_is l ∙ ap (λ x. length (bytes_in x)) m in
           omega (arith, length-append (bytes_of (numbers_of d)) (bytes_in cs), call_some d)
@@ -250,7 +250,7 @@ module _ {i : Input} {o : Output} (r : Ran i o) where
   pub ran_stop : (place : ℕ) → o.end ≡ Stop place → place ≤ length i.bytes
   ran_stop place e =
       let l = r.lists (stop_lists place e) in
-      let s = subst (λ (x : End). Follows i l.made (Over x)) e l.ends in
+      let s = subst (λ (x : End). Follows i l.made (Err x)) e l.ends in
       let n = s.1.stopped.stops.reached.inside in
       let d = length-drop (length (bytes_in l.made)) i.bytes in
       omega (arith, s.1.is, s.0.left)

@@ -1,5 +1,6 @@
 -- What is printed of the transactions of a file is determined by the file and the state of the map.
 -- Assumes nothing.
+use Rattle.std.specs.Prelude.{Result, Ok, Err}
 use mathlib.Core.Path.{◌≡◌, refl, sym, ap, ap₂, ◌∙◌, subst}
 use mathlib.Core.Bool.{Bool, true, false, true≢false}
 use mathlib.Core.List.{List, [], ◌∷◌, ◌++◌, map, append_assoc}
@@ -9,7 +10,8 @@ use lib.ListN.{length, drop, length-append}
 use lib.Seq.{take_at, drop_at}
 use Rattle.lists.specs.Holds.{All}
 use Rattle.transactions.specs.declared.Call.{Call}
-use Rattle.transactions.specs.declared.Reading.{Reading}
+use Rattle.transactions.specs.declared.Halt.{Halt}
+use Rattle.transactions.specs.declared.Halt.TheVariants.{Stop, More}
 use Rattle.transactions.specs.Sequences.{bytes_of}
 use Rattle.transactions.specs.Calls.{numbers_of, WrittenCall}
 use Rattle.transactions.specs.Readings.{CallRead}
@@ -30,34 +32,36 @@ Well c = WrittenCall c (bytes c)
 
 -- ---- readings
 
+-- a call and its length, or why reading goes no further
+abbrev Reading : Type 0
+Reading = Result (Call × ℕ) Halt
+
 -- what a reading answers where a call stands first
-reads : (c : Call) (rest : List ℕ) (place : ℕ) → Well c → CallRead (bytes c ++ rest) place false (Reading.Call c (length (bytes c)))
+reads : (c : Call) (rest : List ℕ) (place : ℕ) → Well c → CallRead (bytes c ++ rest) place false (Ok (c, length (bytes c)))
 reads c rest place w =
     record { inside = omega (arith, length-append (bytes c) rest); written = subst (WrittenCall c) (sym (take_at (bytes c) rest (length (bytes c)) refl)) w }
 
 -- the parts of a reading: its call, or c; whether it is one; the place where it stops, or 0
 call_in : Call → Reading → Call
-call_in c (Reading.Call d len) = d
-call_in c (Reading.Stop place) = c
-call_in c Reading.More = c
+call_in c (Ok next) = next.0
+call_in c (Err halt) = c
 
 is_call : Reading → Bool
-is_call (Reading.Call d len) = true
-is_call (Reading.Stop place) = false
-is_call Reading.More = false
+is_call (Ok next) = true
+is_call (Err halt) = false
 
 place_in : Reading → ℕ
-place_in (Reading.Call d len) = 0
-place_in (Reading.Stop place) = place
-place_in Reading.More = 0
+place_in (Ok next) = 0
+place_in (Err (Stop place)) = place
+place_in (Err More) = 0
 
 -- the first calls of the same bytes are the same
 first_same : (c d : Call) (r q : List ℕ) → Well c → Well d → bytes c ++ r ≡ bytes d ++ q → c ≡ d
 unfolding call_in
 first_same c d r q v w e =
     ap (call_in c)
-    (call_read_same (bytes d ++ q) 0 false (Reading.Call c (length (bytes c))) (Reading.Call d (length (bytes d)))
-    (subst (λ z. CallRead z 0 false (Reading.Call c (length (bytes c)))) e (reads c r 0 v)) (reads d q 0 w))
+    (call_read_same (bytes d ++ q) 0 false (Ok (c, length (bytes c))) (Ok (d, length (bytes d)))
+    (subst (λ z. CallRead z 0 false (Ok (c, length (bytes c)))) e (reads c r 0 v)) (reads d q 0 w))
 
 -- ---- the last line
 
@@ -69,7 +73,7 @@ no_last c rest place m w (ended e) =
     let z : length (bytes c ++ rest) ≡ 0 = ap length e in
     omega arith
 no_last c rest place m w (stopped offset s t) =
-    true≢false (ap is_call (call_read_same (bytes c ++ rest) place false (Reading.Call c (length (bytes c))) (Reading.Stop offset) (reads c rest place w) t))
+    true≢false (ap is_call (call_read_same (bytes c ++ rest) place false (Ok (c, length (bytes c))) (Err (Stop offset)) (reads c rest place w) t))
 
 last_once : (rest : List ℕ) (place : ℕ) (l m : List ℕ) → Last rest place l → Last rest place m → l ≡ m
 unfolding place_in
@@ -77,7 +81,7 @@ last_once rest place l m (ended e) (ended f) = refl
 last_once rest place l m (ended e) (stopped offset s t) = let z : length rest ≡ 0 = ap length e in absurd (omega arith)
 last_once rest place l m (stopped offset s t) (ended f) = let z : length rest ≡ 0 = ap length f in absurd (omega arith)
 last_once rest place l m (stopped a s t) (stopped b u v) =
-    ap stop_line (ap place_in (call_read_same rest place false (Reading.Stop a) (Reading.Stop b) t v))
+    ap stop_line (ap place_in (call_read_same rest place false (Err (Stop a)) (Err (Stop b)) t v))
 
 -- ---- all lines
 
