@@ -60,6 +60,7 @@ impl Told for u32 {
     }
 }
 
+// The node inserted, removed.
 impl Told for Node {
     ghost told = { λ (i : Node). node i.0 };
 
@@ -68,6 +69,7 @@ impl Told for Node {
     }
 }
 
+// The version of the range opened.
 impl Told for Version {
     ghost told = { λ (v : Version). opened v.0 };
 
@@ -76,6 +78,7 @@ impl Told for Version {
     }
 }
 
+// 1 where the node is free.
 impl Told for Handed {
     ghost told = { told_handed };
 
@@ -85,7 +88,7 @@ impl Told for Handed {
     }
 }
 
-// The pairs themselves stand in the buffers.
+// How many pairs, which stand in the buffers, and 1 where none is left.
 impl Told for Stepped {
     ghost told = { told_stepped };
 
@@ -94,6 +97,7 @@ impl Told for Stepped {
     }
 }
 
+// How many nodes were freed, and how many stay due.
 impl Told for Swept {
     ghost told = { λ (s : Swept). swept s.freed s.due };
 
@@ -102,6 +106,7 @@ impl Told for Swept {
     }
 }
 
+// How many nodes are present, held and free.
 impl Told for Tallied {
     ghost told = { λ (t : Tallied). counts t.present t.held t.free };
 
