@@ -41,7 +41,8 @@ pub fn read(bytes: &[u8], at: usize) -> Result<(u64, usize), Unread>
     ensures { Reads (drop at bytes.now) result }
 {
     if bytes.len() < 10 || bytes.len() - 10 < at {
-        return read_each(bytes, at);
+        let (n, len) = read_each(bytes, at)?;
+        return Ok((n, len));
     }
     let b0 = u64::from(bytes[at]);
     if b0 < 128 {
@@ -85,7 +86,9 @@ fn read_long(bytes: &[u8], at: usize, first: u64) -> Result<(u64, usize), Unread
         let n = join_groups(first, b3, b4, b5, b6, b7, b8);
         return Ok((n, (9 + top) as usize));
     }
-    read_each(bytes, at)
+    // The pair is taken apart, so that it stays in registers on the way above.
+    let (n, len) = read_each(bytes, at)?;
+    Ok((n, len))
 }
 
 // The first three groups, the next five and a ninth byte as one number. The ninth byte's high bit is the number's highest.
