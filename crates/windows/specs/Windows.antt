@@ -51,7 +51,7 @@ abbrev pub FetchedBy : Window → List ℕ → List ℕ → Result Window FetchE
 FetchedBy w buffer buffer' (Ok w') = Fetches w buffer w' buffer'
 FetchedBy w buffer buffer' (Err _) = Unit {0}
 
--- of a reader whose bytes are known: those read are its first, and where none were it has no more; one that failed, or was not asked, has them all
+-- of a reader whose bytes are known: those read are its first, and where none were it has no more; where it failed or was not asked, it has them all. Where the input is too long to count, nothing is said
 abbrev pub CameBy : Window → Option (List ℕ) → Option (List ℕ) → List ℕ → Result Window FetchError → Type 0
 CameBy w known known' buffer' (Ok w') = Consumes known known' (drop (count_of w) (held_in w' buffer')) × (w'.more ≡ false → IsAtEnd known')
 CameBy w known known' buffer' (Err FetchError.TooLong) = Unit {0}
