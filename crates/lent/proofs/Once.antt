@@ -1,4 +1,4 @@
--- A lent form is determined by the input: two outcomes are equal, since two outcomes by value are.
+-- A lent form is determined by the input: two outcomes are equal, since two outcomes on sixteen tickets are.
 -- Assumes nothing.
 use mathlib.Core.Path.{◌≡◌, refl, sym, ap, ◌∙◌, subst}
 use mathlib.Core.Bool.{Bool, true, false, true≢false}
@@ -24,8 +24,8 @@ use Rattle.lent.specs.Forms.{SetsUp, Ranges, Runs, Rooms, rooms, input_from, out
 abbrev pub Determined : {X Y : Type 0} → (X → Y → Type 0) → Type 0
 Determined {X} {Y} Out = (x y : X) (a b : Y) → Out x a → Out y b → (x ≡ y) × (a ≡ b)
 
--- LAW: a lent form is determined where the call by value is
-pub lends_once : {X Y : Type 0} {n : ℕ} {ByValue : X → X → Y → Type 0} {refuse : Y} {before : X} → Determined (ByValue before) → Determined (Lends n ByValue refuse before)
+-- LAW: a lent form is determined where the call on sixteen tickets is
+pub lends_once : {X Y : Type 0} {n : ℕ} {OnSixteen : X → X → Y → Type 0} {refuse : Y} {before : X} → Determined (OnSixteen before) → Determined (Lends n OnSixteen refuse before)
 lends_once {X} {Y} {n = n} once x y a b l m = go (eqb n 16) refl
   where
     go : (t : Bool) → eqb n 16 ≡ t → (x ≡ y) × (a ≡ b)
@@ -34,7 +34,7 @@ lends_once {X} {Y} {n = n} once x y a b l m = go (eqb n 16) refl
         let o : n ≡ 16 → ⊥ = λ s. true≢false (sym (eq-eqb n 16 s) ∙ e) in
         ((l.others o).0 ∙ sym (m.others o).0, (l.others o).1 ∙ sym (m.others o).1)
 
--- LAW: so every call whose outcome by value is an `Outcome` is determined: lookup, ceil, floor, succ, pred, tally, insert, remove, hand over, sweep, open, close and step
+-- LAW: so every call whose outcome on sixteen tickets is an `Outcome` is determined: lookup, ceil, floor, succ, pred, tally, insert, remove, hand over, sweep, open, close and step
 pub call_once : {X Y : Type 0} {n : ℕ} {refuse' : Y} (tables : X → Tables) (of : X → Y → Answer) (c : X → Call) (after : X → X) (given refuse : X → Y) (before : X)
     → Determined (Lends n (λ x y a. Outcome tables (of x) (c x) x y (after x) a (given x) (refuse x)) refuse' before)
 call_once tables of c after given refuse before = lends_once (outcome_once tables (of before) (c before) before (after before) (given before) (refuse before))

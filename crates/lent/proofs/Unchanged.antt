@@ -21,9 +21,9 @@ use Rattle.batch.specs.declared.Batch.{Batch}
 use Rattle.lent.specs.Lends.{Lends}
 use Rattle.lent.specs.Forms.{SetsUp, Looks, Nears, Tallies, Inserts, Removes, HandsOver, Sweeps, Opens, Closes, Steps, Ranges, Rooms, rooms, Runs}
 
-module _ {X Y : Type 0} {n : ℕ} {ByValue : X → X → Y → Type 0} {refuse : Y} {before exit : X} {answer : Y} where
-  -- LAW: where the call by value leaves what is lent, so does the lent form, whatever the number of tickets
-  pub lends_unchanged : (ByValue before exit answer → exit ≡ before) → Lends n ByValue refuse before exit answer → exit ≡ before
+module _ {X Y : Type 0} {n : ℕ} {OnSixteen : X → X → Y → Type 0} {refuse : Y} {before exit : X} {answer : Y} where
+  -- LAW: where the call on sixteen tickets leaves what is lent, so does the lent form, whatever the number of tickets
+  pub lends_unchanged : (OnSixteen before exit answer → exit ≡ before) → Lends n OnSixteen refuse before exit answer → exit ≡ before
   lends_unchanged same l = go (ℕ_discrete n 16)
     where
       go : Dec (n ≡ 16) → exit ≡ before

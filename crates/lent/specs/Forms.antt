@@ -1,4 +1,4 @@
--- The lent form of each call: its outcome by value, and its refusal where there are not sixteen tickets.
+-- The lent form of each call: its outcome on sixteen tickets, and its refusal where there are not sixteen tickets.
 -- Assumes nothing.
 use Rattle.std.specs.Prelude.{Result, Err, Some, None, ⊤, Option}
 use Rattle.sizes.specs.declared.Node.{Node}
@@ -70,7 +70,7 @@ abbrev pub Steps : ℕ → ℕ → E.Lent → E.Lent → Result Stepped Refusal 
 Steps n v =
     Lends n (λ x y a. E.Steps x.tables x.keys_out x.values_out y.tables y.keys_out y.values_out v a) (Err NotSound)
 
--- fast range: it leaves the tables; what it does by value says nothing of them afterwards
+-- fast range: it leaves the tables; what the call on sixteen says speaks of the buffers alone
 abbrev pub Ranges : ℕ → ℤ → ℤ → E.Lent → E.Lent → Result ℕ Refusal → Type 0
 Ranges n l h =
     Lends n (λ x y a. (y.tables ≡ x.tables) × E.Ranges x.tables x.keys_out x.values_out y.keys_out y.values_out l h a) (Err NotSound)
