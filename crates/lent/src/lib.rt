@@ -12,13 +12,14 @@ use batch::{Batch, End};
 use model::{Handed, Refusal, Stepped, Swept, Tallied};
 use sizes::{Node, Version, size_of};
 use tables::{Coordinator, Ticket};
+use tickets::{all16, all16_mut};
 
 // All sixteen tickets, or the refusal of a run that has another number of them.
 fn sixteen_of(tickets: &[Ticket]) -> Result<&[Ticket; 16], Refusal>
     ensures sixteen { length tickets.now ≡ 16 → IsOkAnd result (λ all. all.now ≡ tickets.now) }
     ensures others { (length tickets.now ≡ 16 → ⊥) → result ≡ Err NotSound }
 {
-    tickets.as_array::<16>().ok_or(Refusal::NotSound)
+    all16(tickets).ok_or(Refusal::NotSound)
 }
 
 // Set-up: an empty map with no open range.
@@ -34,7 +35,7 @@ pub fn set_up(
 ) -> Result<(), Refusal>
     ensures { SetsUp (length tickets.old) capacity start (lent keys.now values.now rows.old buckets.old tickets.old coordinator.old) (lent keys.now values.now rows.new buckets.new tickets.new coordinator.new) result }
 {
-    let Some(sixteen) = tickets.as_mut_array::<16>() else {
+    let Some(sixteen) = all16_mut(tickets) else {
         size_of(capacity).ok_or(Refusal::NoSuchCapacity)?;
         return Err(Refusal::NotSound);
     };
@@ -62,7 +63,7 @@ pub fn lookup(
 ) -> Result<i64, Refusal>
     ensures { Looks (length tickets.now) key (lent keys.now values.now rows.now buckets.now tickets.now coordinator.now) (lent keys.now values.now rows.now buckets.now tickets.now coordinator.now) result }
 {
-    let sixteen = sixteen_of(tickets)?;
+    let sixteen = sixteen_of(tickets)?; // nothing is looked up
     calls::lookup(keys, values, rows, buckets, sixteen, *coordinator, key)
 }
 
@@ -201,7 +202,7 @@ pub fn hand_over(
 ) -> Result<Handed, Refusal>
     ensures { HandsOver (length tickets.old) node.0 (lent keys.now values.now rows.old buckets.now tickets.old coordinator.now) (lent keys.now values.now rows.new buckets.now tickets.new coordinator.now) result }
 {
-    let Some(sixteen) = tickets.as_mut_array::<16>() else {
+    let Some(sixteen) = all16_mut(tickets) else {
         return Err(Refusal::NotSound);
     };
     calls::hand_over(keys, values, rows, buckets, sixteen, *coordinator, node)
@@ -235,7 +236,7 @@ pub fn open_range(
 ) -> Result<Version, Refusal>
     ensures { Opens (length tickets.old) low high (lent keys.now values.now rows.now buckets.now tickets.old coordinator.old) (lent keys.now values.now rows.now buckets.now tickets.new coordinator.new) result }
 {
-    let Some(sixteen) = tickets.as_mut_array::<16>() else {
+    let Some(sixteen) = all16_mut(tickets) else {
         return Err(Refusal::NotSound);
     };
     calls::open_range(keys, values, rows, buckets, sixteen, coordinator, low, high)
@@ -253,7 +254,7 @@ pub fn close_range(
 ) -> Result<u32, Refusal>
     ensures { Closes (length tickets.old) version.0 (lent keys.now values.now rows.now buckets.now tickets.old coordinator.old) (lent keys.now values.now rows.now buckets.now tickets.new coordinator.new) result }
 {
-    let Some(sixteen) = tickets.as_mut_array::<16>() else {
+    let Some(sixteen) = all16_mut(tickets) else {
         return Err(Refusal::NotSound);
     };
     calls::close_range(keys, values, rows, buckets, sixteen, coordinator, version)
@@ -273,7 +274,7 @@ pub fn step_range(
 ) -> Result<Stepped, Refusal>
     ensures { Steps (length tickets.old) version.0 (with (lent keys.now values.now rows.now buckets.now tickets.old coordinator.now) out_keys.old out_values.old) (with (lent keys.now values.now rows.now buckets.now tickets.new coordinator.now) out_keys.new out_values.new) result }
 {
-    let Some(sixteen) = tickets.as_mut_array::<16>() else {
+    let Some(sixteen) = all16_mut(tickets) else {
         return Err(Refusal::NotSound);
     };
     calls::step_range(
@@ -335,7 +336,7 @@ pub fn run_list(
 ) -> Batch
     ensures { Runs (length tickets.old) bytes.now more (rooms (lent keys.old values.old rows.old buckets.old tickets.old coordinator.old) answers.old out_keys.old out_values.old) (rooms (lent keys.new values.new rows.new buckets.new tickets.new coordinator.new) answers.new out_keys.new out_values.new) result }
 {
-    let Some(sixteen) = tickets.as_mut_array::<16>() else {
+    let Some(sixteen) = all16_mut(tickets) else {
         return Batch {
             end: End::Refused(Refusal::NotSound),
             used: 0,
