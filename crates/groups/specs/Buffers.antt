@@ -7,6 +7,10 @@ use Rattle.groups.specs.declared.TooShort.{TooShort}
 abbrev pub too_short : TooShort
 too_short = record {}
 
+-- the number of this refusal
+abbrev pub short_number : TooShort → ℕ
+short_number r = 1
+
 -- where they fit, the bytes stand at the front, what lies behind stays, and the answer is their length; else the answer is that it is too short and nothing changes
 pub record Writes (bytes before after : List ℕ) (r : Result ℕ TooShort) : Type 0 where
   pub answer : r ≡ cond (leb (length bytes) (length before)) (Ok (length bytes)) (Err too_short)

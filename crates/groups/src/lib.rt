@@ -5,7 +5,7 @@ ghost use Rattle.std.specs.Prelude.{◌≡◌, ◌+◌, ◌-◌, ◌*◌, ◌≤
 ghost use Rattle.std.proofs.lemmas.List.Edits.{sets};
 ghost use Rattle.lists.specs.Tests.{Says};
 ghost use Rattle.groups.specs.Groups.{High, Begun, Led, Reads, groups_of};
-ghost use Rattle.groups.specs.Buffers.{Writes};
+ghost use Rattle.groups.specs.Buffers.{Writes, short_number};
 ghost use Rattle.groups.specs.Signs.{turned, unturned};
 
 // Why no number is read: the bytes left are only the beginning of one, or neither hold nor begin one.
@@ -15,13 +15,13 @@ pub enum Unread {
     Malformed,
 }
 
-// The lent buffer is too short for what is to be written: refusal 1 for hosts.
+// The lent buffer is too short for what is to be written: refusal 1.
 #[derive(Clone, Copy, Debug, PartialEq, Eq)]
 pub struct TooShort;
 
 // The number of this refusal.
 impl From<TooShort> for u32 {
-    ghost from_gives = { λ refusal n. n ≡ 1 };
+    ghost from_gives = { λ refusal n. n ≡ short_number refusal };
 
     fn from(_refusal: TooShort) -> u32 {
         1
