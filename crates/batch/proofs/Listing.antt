@@ -2,7 +2,7 @@
 -- Assumes nothing.
 use Rattle.std.specs.Prelude.{Result, Ok, Err}
 use mathlib.Core.Path.{◌≡◌, refl, sym, ap, ap₂, ◌∙◌}
-use mathlib.Core.Bool.{Bool, true, true≢false}
+use mathlib.Core.Bool.{Bool, true, false, true≢false}
 use mathlib.Core.List.{List, [], ◌∷◌, ◌++◌, map, append_assoc, append-nil}
 use mathlib.Core.Option.{Option}
 use mathlib.Core.Option as O
@@ -12,6 +12,7 @@ use lib.ListN.{length, take, drop, length-append, length-map, length-drop}
 use lib.Seq.{take-add}
 use lib.IntN.{ℤ}
 use Rattle.lists.specs.Buffers.{written}
+use Rattle.lists.specs.Tests.{Says}
 use Rattle.lists.proofs.Answers.{yes! }
 use Rattle.lists.proofs.Writing.{written_none, written_length, written_append}
 use Rattle.groups.specs.Groups.{groups_of}
@@ -33,7 +34,7 @@ use Rattle.calls.proofs.Histories.{as_the_model}
 use Rattle.batch.specs.declared.End.{End}
 use Rattle.batch.specs.Cells.{cells_of}
 use Rattle.batch.specs.Turns.{room, meant, turn_tables, answer_of, pairs_of, keys_in, values_in}
-use Rattle.batch.specs.Lists.{Input, Output, bytes_in, tables_after, made_on, cells_in, pairs_in, Comes, Follows, Made, leaves, Laid, Listed}
+use Rattle.batch.specs.Lists.{Input, Output, bytes_in, tables_after, made_on, cells_in, pairs_in, Comes, Follows, Made, leaves, untouched, Laid, Listed, Ran}
 
 -- ---- one more call
 
@@ -283,10 +284,23 @@ sofar_ends {i} s end c =
       met = s.met;
     }
 
--- LAW: the call that comes leaves fewer bytes
+-- LAW: the call that comes ends within the bytes
+pub next_ends : {i : Input} {t : Tables} {out ks vs : List ℤ} {used calls pairs : ℕ} (s : Sofar i t out ks vs used calls pairs) {c : Call} {len : ℕ}
+    → Comes i.bytes i.more (length out) (length ks) (length vs) used calls pairs (Ok (c, len)) → used + len ≤ length i.bytes
+next_ends {i = i} {used = used} s n = let d = length-drop used i.bytes in omega (arith, s.inside, n.1.inside)
+
+-- LAW: and leaves fewer
 pub next_less : {i : Input} {t : Tables} {out ks vs : List ℤ} {used calls pairs : ℕ} (s : Sofar i t out ks vs used calls pairs) {c : Call} {len : ℕ}
     → Comes i.bytes i.more (length out) (length ks) (length vs) used calls pairs (Ok (c, len)) → length i.bytes - (used + len) < length i.bytes - used
 next_less s {c} n = let e = read_length n.1 in let l = call_some c in omega (arith, n.0.left)
+
+-- ---- on any tables
+
+pub ran_refused : (i : Input) {r : Bool} → Says r (Sound i.tables) → r ≡ false → Ran i (untouched i)
+ran_refused i {r} s e = record { tested = r; says = s; refuses = λ z. refl; lists = λ y. absurd (true≢false (sym y ∙ e)) }
+
+pub ran_lists : {i : Input} {o : Output} {r : Bool} → Says r (Sound i.tables) → r ≡ true → Listed i o → Ran i o
+ran_lists {r = r} s e l = record { tested = r; says = s; refuses = λ z. absurd (true≢false (sym e ∙ z)); lists = λ y. l }
 
 -- ---- what an outcome tells
 

@@ -1,20 +1,27 @@
 -- From what the code puts to the line of a transaction, and to the lines of transactions one behind another.
 -- Assumes nothing.
-use mathlib.Core.Path.{◌≡◌, ap, ◌∙◌}
+use mathlib.Core.Path.{◌≡◌, sym, ap, ◌∙◌}
 use mathlib.Core.List.{List, ◌∷◌, ◌++◌}
 use Prim.Native.Nat.{ℕ, ◌+◌, ◌*◌}
 use native.Mathlib.Omega.{arith}
-use lib.ListN.{length, get_or, take, length-take}
+use lib.ListN.{length, get_or, take, length-map, length-take}
 use lib.IntN.{ℤ, pos}
 use Rattle.listing.specs.Lines.{line, paired}
 use Rattle.listing.specs.Puts.{longest, Put}
 use Rattle.listing.proofs.Putting.{put_wider}
+use Rattle.model.specs.Plain.{Pair}
 use Rattle.model.specs.Calls.{Answer, pairs_in, flat, printed}
 use Rattle.lines.specs.Lines.{line_of}
 use Rattle.lines.specs.Told.{Told, shown_of}
 use Rattle.lines.proofs.Telling.{paired_flat, shown_line, few_shown}
 
 module _ {code : ℕ} {a : Answer} {cells ks vs : List ℤ} (k : Told code a cells ks vs) where
+  -- LAW: as many keys as values
+  pub told_alike : length ks ≡ length vs
+  told_alike =
+      ap length k.keys
+      ∙ (length-map (pairs_in a) (λ (p : Pair). p.0) ∙ sym (ap length k.values ∙ length-map (pairs_in a) (λ (p : Pair). p.1)))
+
   told_pairs : paired ks vs ≡ flat (pairs_in a)
   told_pairs = rw (k.keys, k.values) (paired_flat (pairs_in a))
 

@@ -1,7 +1,7 @@
 -- Laws of the forms of a line: the code's tables, the number of a name, and the words behind a name one after another.
 -- Assumes nothing.
 use mathlib.Core.Path.{◌≡◌, refl, sym, ap, ◌∙◌}
-use mathlib.Core.Bool.{Bool, true, false, cond}
+use mathlib.Core.Bool.{Bool, true, false, true≢false, cond, ◌&&◌}
 use mathlib.Core.List.{List, [], ◌∷◌, ◌++◌, map}
 use denote.Ref.{Bor}
 use Prim.Native.Nat.{ℕ, suc, ◌+◌, ◌≤◌, ◌<◌}
@@ -10,7 +10,7 @@ use native.Mathlib.Numerals.{add-one}
 use lib.Dec.{eqb, leb}
 use lib.ListN.{length, take, drop, get_or, set, length-set, drop_of_length-le, get_or-map, get_or-append}
 use lib.Seq.{length-take-le, drop-cons, take-suc-set}
-use borrow.Author.Tests.{leb-true}
+use borrow.Author.Tests.{eq-eqb, eqb-true, leb-true}
 use lib.Pointwise.{pointwise}
 use Rattle.std.proofs.Common.{Ok, Err, nat_eq}
 use Rattle.std.proofs.lemmas.Bool.Decides.{same_from_decides, Decides-eqb}
@@ -24,6 +24,30 @@ use Rattle.notation.specs.declared.words.Span.{Span}
 use Rattle.notation.specs.Words.{words, part, NextWord}
 use Rattle.notation.specs.Inner.{counted}
 use Rattle.notation.specs.Forms.{names, start, name_of, kinds, same, find, operand, Sense, numbers, wrong, with, next, missing, operands}
+
+-- two words that are the same are equal, and the other way round
+pub same_self : (w : List ℕ) → same w w ≡ true
+same_self [] = refl
+same_self (b ∷ w) = rw (eq-eqb b b refl) (same_self w)
+
+same_equal : (v w : List ℕ) → same v w ≡ true → v ≡ w
+same_equal [] [] e = refl
+same_equal [] (c ∷ w) e = absurd (true≢false (sym e))
+same_equal (b ∷ v) [] e = absurd (true≢false (sym e))
+same_equal (b ∷ v) (c ∷ w) e = go (eqb b c) refl e (same_equal v w)
+  where
+    go : (t : Bool) → eqb b c ≡ t → (t && same v w) ≡ true → (same v w ≡ true → v ≡ w) → b ∷ v ≡ c ∷ w
+    go true f q r = let h = eqb-true b c f in let i = r q in cc
+    go false f q r = absurd (true≢false (sym q))
+
+-- LAW: an answer that says whether they are equal
+pub same_decided : (r : Bool) (v w : List ℕ) → (r ≡ true → v ≡ w) → (v ≡ w → r ≡ true) → r ≡ same v w
+same_decided true v w f g = rw (f refl) (sym (same_self w))
+same_decided false v w f g = go (same v w) refl
+  where
+    go : (t : Bool) → same v w ≡ t → false ≡ same v w
+    go true e = absurd (true≢false (sym (g (same_equal v w e))))
+    go false e = sym e
 
 -- a word and the name of a number are the same, by the code's test of the name's bytes
 pub same_told : (r : Bool) (word read name : List ℕ) → r ≡ pointwise nat_eq word read → read ≡ name → r ≡ same word name

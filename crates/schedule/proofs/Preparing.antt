@@ -45,6 +45,10 @@ memory_fits s e m =
     let f = lengths_fit s in
     rw e (record { of_keys = omega (arith, f.0, m.keyed); of_values = omega (arith, f.0, m.valued); of_rows = omega (arith, f.1, m.rowed); of_buckets = omega (arith, f.2, m.bucketed) })
 
+-- a part that came back is at the front
+pub part_front : {A : Type 0} (d e : List A) (n : ℕ) → length e ≡ length (take n d) → n ≤ length d → take n (e ++ drop n d) ≡ e
+part_front d e n h f = take_at e (drop n d) n (h ∙ length-take-le n d f)
+
 -- ---- the result
 
 -- what holds of each entry of the table holds of the one that is sought

@@ -1,6 +1,6 @@
 -- Laws of numbers one after another: their bytes, and one number more.
 -- Assumes nothing.
-use Prim.Native.Nat.{ℕ, ◌+◌, ◌^◌, ◌≤◌, ◌<◌}
+use Prim.Native.Nat.{ℕ, zero, suc, ◌+◌, ◌^◌, ◌≤◌, ◌<◌}
 use mathlib.Core.Path.{◌≡◌, refl, sym, ap, ap₂, subst, ◌∙◌}
 use mathlib.Core.List.{List, [], ◌∷◌, ◌++◌, append_assoc, append-nil}
 use mathlib.Core.Option.{Option, none, some}
@@ -96,6 +96,13 @@ bytes_next l i h =
 
 pub length_next : (l : List ℕ) (i : ℕ) → i < length l → length (bytes_of (take (i + 1) l)) ≡ length (bytes_of (take i l)) + length (groups_of (get_or l i 0))
 length_next l i h = ap length (bytes_next l i h) ∙ length-append (bytes_of (take i l)) (groups_of (get_or l i 0))
+
+-- fewer of them are no longer
+pub lengths_rise : (l : List ℕ) (k m : ℕ) → k ≤ m → length (bytes_of (take k l)) ≤ length (bytes_of (take m l))
+lengths_rise l zero m h = omega arith
+lengths_rise l (suc k) zero h = absurd (omega arith)
+lengths_rise [] (suc k) (suc m) h = omega arith
+lengths_rise (x ∷ l) (suc k) (suc m) h = omega (arith, lengths_rise l k m (omega arith), length-append (groups_of x) (bytes_of (take k l)), length-append (groups_of x) (bytes_of (take m l)))
 
 -- the length of all is the sum of their lengths
 pub bytes_sum : (ns : List ℕ) → sum_by (λ n. length (groups_of n)) ns ≡ length (bytes_of ns)
