@@ -75,7 +75,7 @@ impl Window {
 }
 
 // Why nothing is held anew: the buffer has no room behind the window, the input is too long to count its bytes, or reading failed.
-#[derive(Debug, Drop)]
+#[derive(Clone, Copy, Debug)]
 pub enum FetchError {
     NoRoom,
     TooLong,
