@@ -9,13 +9,14 @@ ghost use Rattle.rows.specs.Columns.{way};
 ghost use Rattle.soundness.specs.Tested.{lent};
 ghost use Rattle.calls.specs.Entries.{Looks, Nears, Tallies, Inserts, Removes, HandsOver, Sweeps, Closes, Opens, Steps, Ranges};
 
+use model::Refusal::NotSound;
 use model::{Handed, Refusal, Stepped, Swept, Tallied};
 use rows::Direction;
 use sizes::{Node, Version};
 use soundness::sound;
 use tables::{Coordinator, Ticket};
 
-// Refuses tables that are not sound.
+// Refuses tables that are not sound, as the call says.
 fn tested(
     keys: &[u64],
     values: &[i64],
@@ -23,13 +24,14 @@ fn tested(
     buckets: &[u32],
     tickets: &[Ticket; 16],
     coordinator: Coordinator,
+    refusal: Refusal,
 ) -> Result<(), Refusal>
     ensures says { Says (is_ok result) (Sound (lent keys.now values.now rows.now buckets.now tickets.now coordinator)) }
-    ensures refusal { IsOkUnless result NotSound }
+    ensures refusal { IsOkUnless result refusal }
 {
     sound(keys, values, rows, buckets, tickets, coordinator)
         .then_some(())
-        .ok_or(Refusal::NotSound)
+        .ok_or(refusal)
 }
 
 // Lookup: the value of the key.
@@ -44,7 +46,7 @@ pub fn lookup(
 ) -> Result<i64, Refusal>
     ensures { Looks (lent keys.now values.now rows.now buckets.now tickets.now coordinator) (lent keys.now values.now rows.now buckets.now tickets.now coordinator) key result }
 {
-    tested(keys, values, rows, buckets, tickets, coordinator)?;
+    tested(keys, values, rows, buckets, tickets, coordinator, NotSound)?; // nothing is looked up
     finds::lookup(keys, values, rows, buckets, key)
 }
 
@@ -62,7 +64,7 @@ fn nearest(
 ) -> Result<i64, Refusal>
     ensures { Nears (lent keys.now values.now rows.now buckets.now tickets.now coordinator) (lent keys.now values.now rows.now buckets.now tickets.now coordinator) key (way d) at result }
 {
-    tested(keys, values, rows, buckets, tickets, coordinator)?;
+    tested(keys, values, rows, buckets, tickets, coordinator, NotSound)?; // no key is looked for
     finds::nearest(keys, rows, buckets, key, d, at)
 }
 
@@ -198,7 +200,7 @@ pub fn insert(
 ) -> Result<Node, Refusal>
     ensures { Inserts (lent keys.old values.old rows.old buckets.old tickets.now coordinator) (lent keys.new values.new rows.new buckets.new tickets.now coordinator) key value coin result }
 {
-    tested(keys, values, rows, buckets, tickets, coordinator)?;
+    tested(keys, values, rows, buckets, tickets, coordinator, NotSound)?; // nothing is inserted
     let counter = coordinator.counter;
     changes::insert(keys, values, rows, buckets, counter, key, value, coin)
 }
@@ -215,7 +217,7 @@ pub fn remove(
 ) -> Result<Node, Refusal>
     ensures { Removes (lent keys.now values.now rows.old buckets.old tickets.now coordinator) (lent keys.now values.now rows.new buckets.new tickets.now coordinator) key result }
 {
-    tested(keys, values, rows, buckets, tickets, coordinator)?;
+    tested(keys, values, rows, buckets, tickets, coordinator, NotSound)?; // nothing is removed
     let counter = coordinator.counter;
     changes::remove(keys, rows, buckets, counter, key)
 }
@@ -232,7 +234,7 @@ pub fn hand_over(
 ) -> Result<Handed, Refusal>
     ensures { HandsOver (lent keys.now values.now rows.old buckets.now tickets.old coordinator) (lent keys.now values.now rows.new buckets.now tickets.new coordinator) node.0 result }
 {
-    tested(keys, values, rows, buckets, tickets, coordinator)?;
+    tested(keys, values, rows, buckets, tickets, coordinator, NotSound)?; // nothing is handed over
     returns::hand_over(rows, keys.len() as u32, tickets, coordinator.ranges, node)
 }
 
@@ -267,7 +269,7 @@ pub fn open_range(
 ) -> Result<Version, Refusal>
     ensures { Opens (lent keys.now values.now rows.now buckets.now tickets.old coordinator.old) (lent keys.now values.now rows.now buckets.now tickets.new coordinator.new) low high result }
 {
-    tested(keys, values, rows, buckets, tickets, *coordinator)?;
+    tested(keys, values, rows, buckets, tickets, *coordinator, NotSound)?; // no range is opened
     ranges::open_range(keys, rows, buckets, tickets, coordinator, low, high)
 }
 
@@ -283,7 +285,7 @@ pub fn close_range(
 ) -> Result<u32, Refusal>
     ensures { Closes (lent keys.now values.now rows.now buckets.now tickets.old coordinator.old) (lent keys.now values.now rows.now buckets.now tickets.new coordinator.new) version.0 result }
 {
-    tested(keys, values, rows, buckets, tickets, *coordinator)?;
+    tested(keys, values, rows, buckets, tickets, *coordinator, NotSound)?; // no range is closed
     ranges::close_range(tickets, coordinator, version)
 }
 
@@ -301,7 +303,7 @@ pub fn step_range(
 ) -> Result<Stepped, Refusal>
     ensures { Steps (lent keys.now values.now rows.now buckets.now tickets.old coordinator) out_keys.old out_values.old (lent keys.now values.now rows.now buckets.now tickets.new coordinator) out_keys.new out_values.new version.0 result }
 {
-    tested(keys, values, rows, buckets, tickets, coordinator)?;
+    tested(keys, values, rows, buckets, tickets, coordinator, NotSound)?; // no step is made
     ranges::step_range(
         keys,
         values,
@@ -329,7 +331,7 @@ pub fn fast_range(
 ) -> Result<u32, Refusal>
     ensures { Ranges (lent keys.now values.now rows.now buckets.now tickets.now coordinator) out_keys.old out_values.old out_keys.new out_values.new low high result }
 {
-    tested(keys, values, rows, buckets, tickets, coordinator)?;
+    tested(keys, values, rows, buckets, tickets, coordinator, NotSound)?; // nothing is handed out
     let counter = coordinator.counter;
     ranges::fast_range(
         keys, values, rows, buckets, counter, low, high, out_keys, out_values,
