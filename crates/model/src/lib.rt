@@ -1,4 +1,4 @@
-// The answers of the calls, each a Result of its own kind. What a call does is said in specs/, without code.
+// The answers of the calls, each a Result: what it finds or does, or a refusal. What a call does is said in specs/, without code.
 #![tactic(auto)]
 
 ghost use Rattle.std.specs.Prelude.{◌≡◌};
